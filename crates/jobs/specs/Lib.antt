@@ -1,0 +1,4 @@
+pub mod Jobs
+pub mod Laws
+pub mod Orders
+pub mod Preemption

@@ -1,0 +1,4 @@
+pub mod Order
+pub mod Putting
+mod Placing
+pub mod Fronts
