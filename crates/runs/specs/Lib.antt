@@ -1,0 +1,9 @@
+pub mod State
+pub mod Guards
+pub mod Values
+pub mod Jobs
+pub mod Edges
+pub mod Rules
+pub mod Runs
+pub mod Laws
+pub mod Examples

@@ -1,0 +1,5 @@
+pub mod Plan
+pub mod Building
+pub mod Model
+pub mod Whole
+pub mod Rebuilding
