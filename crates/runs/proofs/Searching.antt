@@ -14,7 +14,7 @@ use Rattle.std.proofs.shelf.Maps.{nth-past}
 use Rattle.std.proofs.shelf.Tests.{cases-lt, cond-both, both-ways}
 use Rattle.parts.specs.declared.part.Edge.{Edge}
 use Rattle.runs.specs.State.{State}
-use Rattle.runs.specs.Edges.{Open, Joins, Shut, None-open, Foremost, goes-alone, ready, fits}
+use Rattle.runs.specs.Edges.{Open, Joins, Shut, None-open, Foremost, Found, Finds, goes-alone, ready, fits}
 
 pub nth-in : {X : Type 0} (xs : List X) (i : ℕ) (x : X) → nth xs i ≡ Some x → i < length xs
 nth-in xs i x e = by (cases-lt i (length xs))
@@ -30,13 +30,6 @@ Shut-below s n = (k : ℕ) → k < n → Shut s k
 abbrev pub Unfit-below : State → ℕ → ℕ → Type 0
 Unfit-below s e n = (k : ℕ) → k < n → (d : Edge) (c : Option Edge) → Open s e (Some k) d c → ⊥
 
--- the edge e is the foremost open one, with the partner p
-pub record Found (s : State) (e : ℕ) (p : Option ℕ) : Type 0 where
-  pub edge : Edge
-  pub mate : Option Edge
-  pub opens : Open s e p edge mate
-  pub foremost : Foremost s e p
-
 module _ (s : State) (e : ℕ) (d : Edge) (found : nth (s .plan .edges) e ≡ Some d) where
 
   same-edge : (x : Edge) → nth (s .plan .edges) e ≡ Some x → x ≡ d
@@ -50,6 +43,11 @@ module _ (s : State) (e : ℕ) (d : Edge) (found : nth (s .plan .edges) e ≡ So
   shut-unfit u n all un None x (Some c) o = o .joins
   shut-unfit u n all un (Some p) x None o = o .joins
   shut-unfit u n all un (Some p) x (Some c) o = un p (omega (arith, nth-in (s .plan .edges) p c (o .joins .0))) x (Some c) o
+
+  pub shut-unfit-by : goes-alone (s .present) (d .label) ≡ false → ((p : ℕ) (x : Edge) (c : Option Edge) → Open s e (Some p) x c → ⊥) → Shut s e
+  shut-unfit-by u un None x None o = both-ways _ u (subst (λ y. goes-alone (s .present) (y .label) ≡ true) (same-edge x (o .found)) (o .joins))
+  shut-unfit-by u un None x (Some c) o = o .joins
+  shut-unfit-by u un (Some p) x c o = un p x c o
 
   pub unfit : (p : ℕ) (c : Edge) → nth (s .plan .edges) p ≡ Some c → fits s d c ≡ false → (x : Edge) (y : Option Edge) → Open s e (Some p) x y → ⊥
   unfit p c f u x None o = o .joins
@@ -121,10 +119,6 @@ foremost s = find-edge s 0 (s .plan .edges)
 abbrev Finds-partner : State → ℕ → Edge → Option ℕ → Type 0
 Finds-partner s e d None = (n : ℕ) × (length (s .plan .edges) ≤ n) × Unfit-below s e n
 Finds-partner s e d (Some p) = (c : Edge) × (nth (s .plan .edges) p ≡ Some c) × (fits s d c ≡ true) × Unfit-below s e p
-
-abbrev pub Finds : State → Option (ℕ × Option ℕ) → Type 0
-Finds s None = None-open s
-Finds s (Some x) = Found s (x .0) (x .1)
 
 module _ (s : State) (e : ℕ) (d : Edge) (found : nth (s .plan .edges) e ≡ Some d) where
 

@@ -84,6 +84,18 @@ pub record Foremost (s : State) (e : ℕ) (p : Option ℕ) : Type 0 where
   pub lowest : (k : ℕ) → k < e → Shut s k
   pub partner : Lowest-partner s e p
 
+-- the edge e is the foremost open one, with the partner p
+pub record Found (s : State) (e : ℕ) (p : Option ℕ) : Type 0 where
+  pub edge : Edge
+  pub mate : Option Edge
+  pub opens : Open s e p edge mate
+  pub foremost : Foremost s e p
+
+-- what a search for the foremost open edge and its partner answers
+abbrev pub Finds : State → Option (ℕ × Option ℕ) → Type 0
+Finds s None = None-open s
+Finds s (Some x) = Found s (x .0) (x .1)
+
 -- ---- taking an edge
 
 abbrev pub receives : Label → Bool

@@ -8,6 +8,7 @@ ghost use Rattle.std.specs.Of.Vec.{vec-items};
 ghost use Rattle.sequence.specs.Plan.{scope, reached, automaton-of, ends-fit, complete};
 ghost use Rattle.sequence.specs.Building.{begin, add-variable, add-task, add-location, add-edge, next-automaton};
 ghost use Rattle.sequence.specs.Model.{plan-of, Adds};
+ghost use Rattle.sequence.specs.Memories.{Roomy-and-empty};
 ghost use Rattle.sequence.specs.Whole.{plan};
 ghost use Rattle.sequence.specs.Rebuilding.{Every-sequence-is-built};
 
@@ -34,8 +35,10 @@ use std::alloc::Global;
 pub struct BadCounts(pub Memory);
 
 impl Memory {
-    // The one place where memory is got.
-    pub fn new(heap: Global) -> Result<Self, AllocError> {
+    // The one place where memory is got: room for all that a sequence can hold, and nothing in it.
+    pub fn new(heap: Global) -> Result<Self, AllocError>
+        ensures { λ r. ⌜ Cases r (λ m. Roomy-and-empty m) (λ _. Unit {0}) ⌝ }
+    {
         let variables = Vec::with_capacity(heap, 16)?;
         let tasks = Vec::with_capacity(heap, 16)?;
         let locations = Vec::with_capacity(heap, 64)?;
@@ -47,7 +50,7 @@ impl Memory {
 impl Draft {
     // A draft with nothing but counts. Where they break a limit the memory is handed back.
     pub fn begin(memory: Memory, counts: Counts) -> Result<Self, BadCounts>
-        ensures { λ r. ⌜ Cases r (λ d. begin counts ≡ Ok (plan-of d)) (λ b. begin counts ≡ Err (Rule.BadCounts)) ⌝ }
+        ensures { λ r. ⌜ Cases r (λ d. begin counts ≡ Ok (plan-of d)) (λ b. (begin counts ≡ Err (Rule.BadCounts)) × (b .0 ≡ memory)) ⌝ }
     {
         if !counts.fit() {
             return Err(BadCounts(memory));

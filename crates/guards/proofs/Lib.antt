@@ -1,0 +1,3 @@
+mod Groups
+mod Spans
+mod Intervals

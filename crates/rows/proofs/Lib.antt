@@ -1,0 +1,3 @@
+mod Sums
+mod Groups
+pub mod Sides
