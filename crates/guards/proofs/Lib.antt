@@ -1,3 +1,3 @@
-mod Groups
-mod Spans
-mod Intervals
+pub mod Groups
+pub mod Spans
+pub mod Intervals

@@ -93,8 +93,8 @@ pub fn invariants_hold(invariants: &[Option<Invariant>], zeroed: &[u32], tick: u
 }
 
 // Whether a location's invariants hold. Where there is no location nothing is asked.
-pub fn may_stay(location: &Option<Location>, zeroed: &[u32], tick: u32) -> bool
-    ensures { λ r. ⌜ r ≡ may-stay-in (now (zeroed .entry)) tick (now (location .entry)) ⌝ }
+pub fn may_stay(location: Option<Location>, zeroed: &[u32], tick: u32) -> bool
+    ensures { λ r. ⌜ r ≡ may-stay-in (now (zeroed .entry)) tick location ⌝ }
 {
     match location {
         None => true,

@@ -1,6 +1,6 @@
 // The ticks at which conditions and guards hold, supposing that no clock is zeroed and no variable changes.
 //
-// A span speaks of the ticks from any tick on by which all clocks were zeroed last, up to the last tick.
+// A span is right from the last zeroing of a clock on, up to the last tick.
 ghost use mathlib.Core.Path.{_≡_};
 ghost use Prim.Native.Nat.{ℕ, _-_, _≤_, min, max};
 ghost use lib.IntN.{pos};
@@ -12,6 +12,9 @@ use crate::span::Span;
 use parts::LAST_TICK;
 use parts::part::Condition;
 use parts::part::Relation;
+
+const ALL: Span = Span { low: 0, high: LAST_TICK };
+const NONE: Span = Span { low: 1, high: 0 };
 
 impl Span {
     // What two spans have in common.
@@ -27,26 +30,17 @@ impl Span {
 fn all_or_none(all: bool) -> Span
     ensures { λ r. ⌜ Spans 0 (λ _. all) r ⌝ }
 {
-    if all {
-        Span { low: 0, high: LAST_TICK }
-    } else {
-        Span { low: 1, high: 0 }
-    }
+    if all { ALL } else { NONE }
 }
 
-// When a clock that was zeroed last at a tick compares so with a constant.
+// When a clock that was zeroed last at `start` compares so with a constant.
 fn clock_span(relation: Relation, start: u32, k: u32) -> Span
     ensures { λ r. ⌜ Spans start (λ t. compares relation (pos (t - start)) (pos k)) r ⌝ }
 {
     let tick = start.saturating_add(k);
     match relation {
-        Relation::Lt => {
-            if tick == 0 {
-                Span { low: 1, high: 0 }
-            } else {
-                Span { low: 0, high: tick - 1 }
-            }
-        }
+        Relation::Lt if k == 0 => NONE,
+        Relation::Lt => Span { low: 0, high: tick - 1 },
         Relation::Le => Span { low: 0, high: tick },
         Relation::Eq => Span { low: tick, high: tick },
         Relation::Ge => Span { low: tick, high: LAST_TICK },
@@ -70,7 +64,7 @@ pub fn condition_span(condition: &Condition, zeroed: &[u32], values: &[i16]) -> 
 pub fn guard_span(guard: &[Option<Condition>], zeroed: &[u32], values: &[i16]) -> Span
     ensures { λ r. ⌜ Guard-spans (now (zeroed .entry)) (now (values .entry)) (now (guard .entry)) r ⌝ }
 {
-    let mut span = Span { low: 0, high: LAST_TICK };
+    let mut span = ALL;
     for place in guard {
         if let Some(condition) = place {
             span = span.meet(condition_span(condition, zeroed, values));

@@ -1,16 +1,22 @@
 -- The assignments of a step's edges are those of one side, or of two.
 use mathlib.Core.Path.{_≡_, refl, ap, _∙_}
 use mathlib.Core.List.{List, [], _∷_}
-use mathlib.Core.Bool.{true, false, cond}
+use mathlib.Core.Bool.{true, false}
 use lib.IntN.{ℤ}
+use Rattle.std.specs.Options.{isSome}
 use Rattle.std.specs.declared.option.Option.{Option}
 use Rattle.std.specs.declared.option.Option.the-variants.{Some, None}
-use Rattle.std.proofs.shelf.Tests.{cond-true, cond-false}
+use Rattle.std.proofs.shelf.Tests.{both-ways, cond-true, cond-false}
 use Rattle.parts.specs.declared.part.Edge.{Edge}
 use Rattle.parts.specs.declared.part.Variable.{Variable}
 use Rattle.runs.specs.Values.{and-then, assign-all, assign-edges}
 use Rattle.runs.specs.Edges.{receives, sides}
-use Rattle.rows.specs.Rows.{assign-both, Sides-in-order}
+use Rattle.rows.specs.Rows.{assign-both}
+
+-- the values after a step that only lacks room
+pub values-after : (o : Option (List ℤ)) → isSome o ≡ true → (values : List ℤ) × (o ≡ Some values)
+values-after None e = absurd (both-ways false refl e)
+values-after (Some values) e = (values, refl)
 
 pub sides-sent : (d c : Edge) → receives (d .label) ≡ false → sides d (Some c) ≡ d ∷ c ∷ []
 sides-sent d c e = cond-false _ _ _ e

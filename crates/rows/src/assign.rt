@@ -6,7 +6,7 @@ ghost use lib.IntN.{_+ℤ_};
 ghost use lib.Signed.{leZ};
 ghost use Rattle.std.specs.declared.option.Option.the-variants.{Some, None};
 ghost use Rattle.runs.specs.Values.{base, no-variable, in-range, assigned-value, assign as assigned, assign-all};
-ghost use Rattle.rows.specs.Rows.{Assigns};
+ghost use Rattle.rows.specs.Rows.{Group-run};
 use crate::fault::OutOfRange;
 use parts::part::Assignment;
 use parts::part::Variable;
@@ -75,7 +75,7 @@ pub fn assign_one(
     assignment: Option<Assignment>,
     values: &mut [i16],
 ) -> Result<(), OutOfRange>
-    ensures { λ r. ⌜ Assigns (assigned (now (variables .entry)) assignment (now (values .entry))) (now (values .exit)) r ⌝ }
+    ensures { λ r. ⌜ Group-run (assigned (now (variables .entry)) assignment (now (values .entry))) (now (values .exit)) r ⌝ }
 {
     let Some(a) = assignment else {
         return Ok(());
@@ -97,7 +97,7 @@ pub fn assign_all(
     assignments: &[Option<Assignment>],
     values: &mut [i16],
 ) -> Result<(), OutOfRange>
-    ensures { λ r. ⌜ Assigns (assign-all (now (variables .entry)) (now (assignments .entry)) (now (values .entry))) (now (values .exit)) r ⌝ }
+    ensures { λ r. ⌜ Group-run (assign-all (now (variables .entry)) (now (assignments .entry)) (now (values .entry))) (now (values .exit)) r ⌝ }
 {
     for assignment in assignments {
         assign_one(variables, *assignment, values)?;

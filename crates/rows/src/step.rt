@@ -6,7 +6,7 @@ ghost use lib.ListN.{length, take};
 ghost use Rattle.std.specs.Options.{Cases};
 ghost use Rattle.runs.specs.Values.{assign-all};
 ghost use Rattle.rows.specs.declared.fault.StepFault.the-variants.{Range};
-ghost use Rattle.rows.specs.Rows.{assign-both, Steps, Finishes, Sides-in-order};
+ghost use Rattle.rows.specs.Rows.{assign-both, Step-run, Task-run, Sides-in-order};
 use crate::assign::assign_all;
 use crate::fault::OutOfRange;
 use crate::fault::StepFault;
@@ -19,8 +19,8 @@ const MOST_VALUES: usize = 16;
 pub impl From<OutOfRange> for StepFault as StepFaultFromRange {
     ghost converts = { λ _ r. r ≡ Range };
 
-    fn from(_: OutOfRange) -> StepFault {
-        StepFault::Range
+    fn from(_: OutOfRange) -> Self {
+        Self::Range
     }
 }
 
@@ -32,7 +32,7 @@ struct RowGuard<'a> {
 }
 
 impl Drop for RowGuard<'_> {
-    // No guard is made over a longer row: `saved` refuses it.
+    // The bound is asked of whoever makes a guard, which only `run_step` does: `saved` refuses a longer row.
     fn drop(self)
         requires { ⌜ length (now (self .row)) ≤ 16 ⌝ }
         ensures { λ _. ⌜ now (self .exit .0) ≡ cond (self .entry .keep) (now (self .entry .row)) (take (length (now (self .entry .row))) (self .entry .old)) ⌝ }
@@ -59,7 +59,8 @@ fn saved(row: &[i16]) -> Option<[i16; MOST_VALUES]>
 }
 
 // The assignments of a step: the first side's, then the second's, each seeing those before it. Refused where one of them
-// leaves a range, and else where the step's jobs have no room; then the row is as it was.
+// leaves a range, and else where the step's jobs have no room; then the row is as it was. A row that is too long is
+// refused as out of range.
 pub fn run_step(
     variables: &[Variable],
     values: &mut [i16],
@@ -67,7 +68,7 @@ pub fn run_step(
     second: &[Option<Assignment>],
     room: bool,
 ) -> Result<(), StepFault>
-    ensures { λ r. ⌜ Steps room (assign-both (now (variables .entry)) (now (first .entry)) (now (second .entry)) (now (values .entry))) (now (values .entry)) (now (values .exit)) r ⌝ }
+    ensures { λ r. ⌜ Step-run room (assign-both (now (variables .entry)) (now (first .entry)) (now (second .entry)) (now (values .entry))) (now (values .entry)) (now (values .exit)) r ⌝ }
 {
     let Some(old) = saved(values) else {
         return Err(StepFault::Range);
@@ -92,7 +93,7 @@ pub fn finish_assignments(
     values: &mut [i16],
     assignments: &[Option<Assignment>],
 ) -> bool
-    ensures { λ r. ⌜ Finishes (assign-all (now (variables .entry)) (now (assignments .entry)) (now (values .entry))) (now (values .entry)) (now (values .exit)) r ⌝ }
+    ensures { λ r. ⌜ Task-run (assign-all (now (variables .entry)) (now (assignments .entry)) (now (values .entry))) (now (values .entry)) (now (values .exit)) r ⌝ }
 {
     run_step(variables, values, assignments, &[], true).is_ok()
 }

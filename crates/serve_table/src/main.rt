@@ -149,7 +149,7 @@ fn pass(rt: &LibcRuntime, rows: &[Row], queue: &mut ReadyQueue, p: &mut Progress
                 close_stretch(rt, p)?;
                 p.working = Some((p.now, job.number));
             }
-            p.now += 1;
+            p.now = p.now.saturating_add(1);
             Ok(true)
         }
         None => match rows.get(p.released) {

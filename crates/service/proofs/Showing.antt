@@ -1,7 +1,13 @@
 -- The worked facts, by computation.
+use mathlib.Core.List.{[], _∷_}
 use Rattle.jobs.specs.Orders.{fp-before}
 use Rattle.runs.proofs.Showing.{shown}
-use Rattle.service.specs.Examples.{Deadline-facts, two-tasks, at-6-and-7}
+use Rattle.service.specs.Examples.{Service-facts, two-tasks, at-6-and-7, release-plan, spoil-plan, exposure-plan}
 
-pub deadline-facts : Deadline-facts
-deadline-facts = record { in-time = shown fp-before 80 (two-tasks 2) at-6-and-7; late = shown fp-before 84 (two-tasks 3) at-6-and-7 }
+pub service-facts : Service-facts
+service-facts = record {
+    in-time = shown fp-before 80 (two-tasks 2) at-6-and-7;
+    late = shown fp-before 84 (two-tasks 3) at-6-and-7;
+    sender-released-first = shown fp-before 20 release-plan [];
+    spoiled = shown fp-before 12 spoil-plan [];
+    exposure = shown fp-before 131 exposure-plan (record { tick = 2; number = 0 } ∷ record { tick = 3; number = 0 } ∷ []) }

@@ -10,13 +10,13 @@ use Rattle.jobs.specs.declared.job.Job.{Job}
 use Rattle.jobs.specs.declared.job.JobKey.{JobKey}
 use Rattle.ready_queue.specs.Waiting.{Numbers-apart}
 use Rattle.sources.specs.declared.trigger.Trigger.{Trigger}
-use Rattle.parts.specs.Limits.{last-tick}
+
 use Rattle.parts.specs.declared.part.Variable.{Variable}
 use Rattle.sequence.specs.Plan.{Plan, Valid}
 use Rattle.runs.specs.declared.event.Phase.the-variants.{Pass}
 use Rattle.runs.specs.declared.event.Cause.the-variants.{Overload}
 use Rattle.runs.specs.declared.event.Event.{Event}
-use Rattle.runs.specs.State.{State, most-jobs, most-steps}
+use Rattle.runs.specs.State.{State}
 use Rattle.runs.specs.Values.{in-range, no-variable}
 use Rattle.runs.specs.Edges.{sides, released}
 use Rattle.runs.specs.Rules.{None-present, Refuses}
@@ -29,14 +29,14 @@ pub record In-ranges (vars : List Variable) (values : List ℤ) : Type 0 where
 
 pub record Bounded (p : Plan) (s : State) : Type 0 where
   pub same-plan : s .plan ≡ p
-  pub jobs : length (s .waiting) ≤ most-jobs
-  pub steps : s .steps ≤ most-steps
+  pub jobs : length (s .waiting) ≤ 32
+  pub steps : s .steps ≤ 64
   pub values : In-ranges (p .variables) (s .values)
-  pub time : s .now ≤ last-tick
+  pub time : s .now ≤ 1000000000
   pub apart : Numbers-apart (s .waiting)
   pub given : All (λ j. j .number < s .next) (s .waiting)
   -- job numbers fit 32 bits
-  pub numbers : s .next ≤ s .now + most-jobs
+  pub numbers : s .next ≤ s .now + 32
   pub places : length (s .places) ≡ p .counts .automata
   pub clocks : length (s .zeroed) ≡ p .counts .clocks
   pub triggers : length (s .present) ≡ p .counts .triggers

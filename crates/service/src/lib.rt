@@ -1,5 +1,5 @@
 // The laws of service: each function names a law over runs that is proved.
-ghost use Rattle.service.specs.Examples.{Deadline-facts};
+ghost use Rattle.service.specs.Examples.{Service-facts};
 ghost use Rattle.service.specs.Work.{The-right-job-works, Works-only-between, Done-means-exactly-C-within-D};
 ghost use Rattle.service.specs.Jobs.{Jobs-go-on};
 ghost use Rattle.service.specs.Bounds.{Nothing-leaves-its-bounds};
@@ -34,8 +34,8 @@ pub fn jobs_go_on()
 {
 }
 
-// C 3, D 5, released at 6: done at 11 is right, still waiting at 12 ends the run.
-pub fn deadline_facts()
-    ensures { λ _. ⌜ Deadline-facts ⌝ }
+// The worked facts about deadlines, releases, a task's assignments, and one whole run.
+pub fn service_facts()
+    ensures { λ _. ⌜ Service-facts ⌝ }
 {
 }
