@@ -28,7 +28,8 @@ Group-run after row (Err _) = after ≡ None
 abbrev pub assign-both : List Variable → (first second : List (Option Assignment)) → List ℤ → Option (List ℤ)
 assign-both vars first second values = and-then (assign-all vars first values) (assign-all vars second)
 
--- a step: a range is left, or there is no room, or the row holds the values after all
+-- a step: a range is left, or there is no room, or the row holds the values after all. A row of more than 16 values is refused
+-- too; no sequence has that many
 abbrev pub Step-run : (room : Bool) (after : Option (List ℤ)) (before row : List ℤ) → Result Unit StepFault → Type 0
 Step-run room after before row (Ok _) = (room ≡ true) × (after ≡ Some row)
 Step-run room after before row (Err Range) = (row ≡ before) × (length before ≤ 16 → after ≡ None)

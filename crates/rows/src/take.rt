@@ -14,6 +14,7 @@ fn put<T: Copy>(row: &mut [T], place: usize, x: T)
     }
 }
 
+// Zeroes one clock at a tick; none changes nothing.
 fn reset_one(zeroed: &mut [u32], reset: Option<Reset>, tick: u32)
     ensures { λ _. ⌜ now (zeroed .exit) ≡ reset-one tick reset (now (zeroed .entry)) ⌝ }
 {
