@@ -15,7 +15,7 @@ use Rattle.std.specs.declared.option.Option.{Option}
 use Rattle.std.specs.declared.option.Option.the-variants.{Some, None}
 use Rattle.std.proofs.shelf.Elements.{all-weaker}
 use Rattle.std.proofs.shelf.Lists.{length-replicate, set-past}
-use Rattle.std.proofs.shelf.Tests.{cases-eq, cases-lt, cases-bool, cond-both, cond-true, cond-false, and-parts, and-from, ltb-true, ltb-false, leb-true, ne-eqb, eq-eqb, eqb-true, both-ways}
+use Rattle.std.proofs.shelf.Tests.{cases-eq, cases-lt, cases-bool, cond-both, cond-true, cond-false, and-parts, and-from, ltb-true, ltb-false, le-ltb, leb-true, ne-eqb, eq-eqb, eqb-true, both-ways}
 use Rattle.precedence.proofs.Putting.{length-put}
 use Rattle.jobs.specs.declared.job.Job.{Job}
 use Rattle.jobs.specs.declared.job.JobKey.{JobKey}
@@ -167,10 +167,10 @@ First-over (j ∷ js) = j .remaining ≡ 0
 abbrev By-phase : Phase → (now next : ℕ) → List Job → Type 0
 By-phase Late now next js = Busy-rest js × (next ≤ length js + (now - 1)) × (now ≡ 0 → js ≡ [])
 By-phase Finish now next js = Busy-rest js × All (In-time now) js × (next ≤ length js + now) × (First-over js → next + 1 ≤ length js + now)
-By-phase Arrival now next js = All Busy js × (next ≤ length js + now)
-By-phase Edges now next js = All Busy js × (next ≤ length js + now)
-By-phase Close now next js = All Busy js × (next ≤ length js + now)
-By-phase Pass now next js = All Busy js × (next ≤ length js + now)
+By-phase Arrival now next js = All Busy js × (next ≤ length js + now) × All (In-time now) js
+By-phase Edges now next js = All Busy js × (next ≤ length js + now) × All (In-time now) js
+By-phase Close now next js = All Busy js × (next ≤ length js + now) × All (In-time now) js
+By-phase Pass now next js = All Busy js × (next ≤ length js + now) × All (In-time now) js
 
 abbrev Spent : List Event → Job → Type 0
 Spent es j = ticks-worked (j .number) es + j .remaining ≡ j .cost
@@ -256,6 +256,7 @@ record Released (es : List Event) (now : ℕ) (q : Queue) : Type 0 where
   few : q .next ≤ length (q .jobs) + now
   unused : (n : ℕ) → q .next ≤ n → ticks-worked n es ≡ 0
   releases : All (λ j. j .release ≤ now) (q .jobs)
+  in-time : All (In-time now) (q .jobs)
 
 release-right : (g : JobKey → JobKey → Bool) (p : Plan) → Sound p → (es : List Event) (now : ℕ) (ds : List Edge) (q : Queue) → Released es now q → Released es now (release-edges g p now ds q)
 release-right g p s es now = all-kept g p now (Released es now) (λ i t q e h.
@@ -265,7 +266,8 @@ release-right g p s es now = all-kept g p now (Released es now) (λ i t q e h.
       busy = all-put (job-before g) Busy j (q .jobs) (costs p s i t e) (h .busy);
       few = omega (arith, length-put (job-before g) j (q .jobs), h .few);
       unused = λ n l. h .unused n (omega arith);
-      releases = all-put (job-before g) (λ k. k .release ≤ now) j (q .jobs) (omega arith) (h .releases) })
+      releases = all-put (job-before g) (λ k. k .release ≤ now) j (q .jobs) (omega arith) (h .releases);
+      in-time = all-put (job-before g) (In-time now) j (q .jobs) (le-ltb (t .deadline) (now - now) (omega arith)) (h .in-time) })
 
 -- ---- the invariant is kept
 
@@ -293,7 +295,7 @@ module _ (g : JobKey → JobKey → Bool) (p : Plan) (valid : Sound p) where
     where
       phases : Finish ≡ Pass → ⊥
       phases e = let x : _≡_ {A = ℕ} 0 1 = cc in omega arith
-  left Finish es s h o = let b = in-phase-of Finish es s (h .in-phase-p) o in ((busy-all (s .waiting) (b .0) (h .nothing-due), b .2), λ e. absurd (phases e))
+  left Finish es s h o = let b = in-phase-of Finish es s (h .in-phase-p) o in ((busy-all (s .waiting) (b .0) (h .nothing-due), b .2, b .1), λ e. absurd (phases e))
     where
       phases : Arrival ≡ Pass → ⊥
       phases e = let x : _≡_ {A = ℕ} 0 1 = cc in omega arith
@@ -334,12 +336,12 @@ module _ (g : JobKey → JobKey → Bool) (p : Plan) (valid : Sound p) where
       let b = in-phase-of Edges es s (h .tries .in-edges) o in
       let i : (m : ℕ) → works-in m e ≡ 0 = λ m. ap (works-in m) l in
       let r : Released es (s .now) (released g ds s) = subst (λ (x : Plan). Released es (s .now) (release-edges g x (s .now) ds (record { next = s .next; jobs = s .waiting }))) (sym (o .same-plan))
-          (release-right g p valid es (s .now) ds (record { next = s .next; jobs = s .waiting }) (record { spent = o .spent; busy = b .0; few = b .1; unused = o .counted .unused; releases = o .releases })) in
+          (release-right g p valid es (s .now) ds (record { next = s .next; jobs = s .waiting }) (record { spent = o .spent; busy = b .0; few = b .1; unused = o .counted .unused; releases = o .releases; in-time = b .2 })) in
       let v : In-ranges (p .variables) (h .values) = subst (In-ranges-if (p .variables)) (ap (λ (x : Plan). assign-edges (x .variables) ds (s .values)) (sym (o .same-plan)) ∙ h .assigned) (edges-in-range (p .variables) ds (s .values) (o .values)) in
       subst (λ (u : State). Counted (es ++ e ∷ []) u → Right p (es ++ e ∷ []) u) (sym (h .after)) (λ d. record {
         counted = d; same-plan = o .same-plan; few = h .room; steps = omega (arith, h .few); values = v; time = o .time;
         spent = spent-still es e i (released g ds s .jobs) (r .spent);
-        by-phase = subst (λ (x : Phase). By-phase x (s .now) (released g ds s .next) (released g ds s .jobs)) (sym (h .tries .in-edges)) (r .busy, r .few);
+        by-phase = subst (λ (x : Phase). By-phase x (s .now) (released g ds s .next) (released g ds s .jobs)) (sym (h .tries .in-edges)) (r .busy, r .few, r .in-time);
         places = places-long (s .plan) ds (s .places) ∙ o .places; clocks = clocks-long (s .now) ds (s .zeroed) ∙ o .clocks; triggers = triggers-long (h .tries .edge .label) (s .present) ∙ o .triggers;
         zeroed = edges-zeroed (s .now) ds (s .zeroed) (o .zeroed); releases = r .releases;
         closed = λ x. absurd (not-edges (sym (h .tries .in-edges) ∙ x)) }) c
@@ -411,6 +413,14 @@ count-of Edges now next js h = h .1
 count-of Close now next js h = h .1
 count-of Pass now next js h = h .1
 
+times-of : (q : Phase) (now next : ℕ) (js : List Job) → (q ≡ Late → ⊥) → By-phase q now next js → All (In-time now) js
+times-of Late now next js n h = absurd (n refl)
+times-of Finish now next js n h = h .1
+times-of Arrival now next js n h = h .2
+times-of Edges now next js n h = h .2
+times-of Close now next js n h = h .2
+times-of Pass now next js n h = h .2
+
 -- a step with no release leaves the queue as it was
 same-or-more : (g : JobKey → JobKey → Bool) (p : Plan) (tick : ℕ) (q₀ : Queue) (ds : List Edge) (q : Queue) → ((q .jobs ≡ q₀ .jobs) ⊎ (q₀ .next < q .next)) × (q₀ .next ≤ q .next) → ((release-edges g p tick ds q .jobs ≡ q₀ .jobs) ⊎ (q₀ .next < release-edges g p tick ds q .next)) × (q₀ .next ≤ release-edges g p tick ds q .next)
 same-or-more g p tick q₀ = all-kept g p tick (λ q. ((q .jobs ≡ q₀ .jobs) ⊎ (q₀ .next < q .next)) × (q₀ .next ≤ q .next)) (λ i t q e h. (inr (omega (arith, h .1)), omega (arith, h .1)))
@@ -421,7 +431,9 @@ nothing-leaves-its-bounds g p valid ts es s r =
       same-plan = o .same-plan; jobs = o .few; steps = o .steps; values = o .values; time = o .time;
       apart = o .counted .numbered .apart; given = o .counted .numbered .given;
       numbers = omega (arith, count-of (s .phase) (s .now) (s .next) (s .waiting) (o .by-phase), o .few);
-      places = o .places; clocks = o .clocks; triggers = o .triggers; zeroed = o .zeroed; releases = o .releases; closed = o .closed },
+      places = o .places; clocks = o .clocks; triggers = o .triggers; zeroed = o .zeroed; releases = o .releases;
+      in-time = λ n. all-weaker (In-time (s .now)) (λ j. s .now ≤ j .release + j .deadline) (λ j f. omega (arith, ltb-false (j .deadline) (s .now - j .release) f)) (s .waiting) (times-of (s .phase) (s .now) (s .next) (s .waiting) n (o .by-phase));
+      closed = o .closed },
      overload)
   where
     o : Right p es s

@@ -63,18 +63,18 @@ record Grows (e : Event) (s : State) (q : Queue) : Type 0 where
   from : All (Origin e s) (q .jobs)
   to : All (Has (q .jobs)) (s .waiting)
 
-taken-grows : (g : JobKey → JobKey → Bool) (p : Plan) (e : Event) (s : State) (n : ℕ) (q : Option ℕ) → e ≡ Made (line.Edge (s .now) n q) → (ds : List Edge) (u : Queue) → Grows e s u → Grows e s (release-edges g p (s .now) ds u)
-taken-grows g p e s n q l = all-kept g p (s .now) (Grows e s) (λ i t u f h.
+taken-grows : (g : JobKey → JobKey → Bool) (e : Event) (s : State) (n : ℕ) (q : Option ℕ) → e ≡ Made (line.Edge (s .now) n q) → (ds : List Edge) (u : Queue) → Grows e s u → Grows e s (release-edges g (s .plan) (s .now) ds u)
+taken-grows g e s n q l = all-kept g (s .plan) (s .now) (Grows e s) (λ i t u f h.
     let j = released-job (u .next) i (t .cost) (t .deadline) (t .priority) (s .now) in
     record {
       up = omega (arith, h .up);
-      from = all-put (job-before g) (Origin e s) j (u .jobs) (inr (inr (record { tick = s .now; number = n; partner = q; line-is = l; released-then = refl; new = h .up; whole = refl; fresh = refl }))) (h .from);
+      from = all-put (job-before g) (Origin e s) j (u .jobs) (inr (inr (record { tick = s .now; number = n; partner = q; line-is = l; released-then = refl; new = h .up; terms = t; of-task = f; cost = refl; deadline = refl; priority = refl; whole = refl; fresh = refl }))) (h .from);
       to = all-weaker (Has (u .jobs)) (Has (put (job-before g) j (u .jobs))) (λ k m. has-put (job-before g) j k (u .jobs) m) (s .waiting) (h .to) })
 
 take-goes : (g : JobKey → JobKey → Bool) (k n : ℕ) (q : Option ℕ) (e : Event) (s t : State) → e ≡ Made (line.Edge k n q) → Takes g k n q s t → Goes-on e s t
 take-goes g k n q e s t l h =
     let ds = sides (h .tries .edge) (h .tries .mate) in
-    let r : Grows e s (released g ds s) = taken-grows g (s .plan) e s n q (l ∙ ap (λ i. Made (line.Edge i n q)) (h .tries .this-tick)) ds (record { next = s .next; jobs = s .waiting })
+    let r : Grows e s (released g ds s) = taken-grows g e s n q (l ∙ ap (λ i. Made (line.Edge i n q)) (h .tries .this-tick)) ds (record { next = s .next; jobs = s .waiting })
         (record { up = omega arith; from = all-weaker (Has (s .waiting)) (Origin e s) (λ j m. inl m) (s .waiting) (has-all (s .waiting)); to = has-all (s .waiting) }) in
     record {
       from = subst (λ (u : State). All (Origin e s) (u .waiting)) (sym (h .after)) (r .from);
@@ -88,7 +88,7 @@ done-goes e s t j js k i w v l = record {
 pass-goes : (e : Event) (s t : State) (js : List Job) → s .waiting ≡ js → t .waiting ≡ serve-first js → e ≡ Passed (worker js) → Goes-on e s t
 pass-goes e s t [] w v l = same-jobs e s t (v ∙ sym w)
 pass-goes e s t (j ∷ js) w v l = record {
-    from = subst (All (Origin e s)) (sym v) (inr (inl (j, subst (λ (ws : List Job). Has ws j) (sym w) (has-first j js), _, l, refl, refl)), all-weaker (Has (j ∷ js)) (Origin e s) (λ x h. inl (subst (λ (ws : List Job). Has ws x) (sym w) h)) js (has-tail j js));
+    from = subst (All (Origin e s)) (sym v) (inr (inl (j, subst (λ (ws : List Job). Has ws j) (sym w) (has-first j js), _, l, refl, refl, record { number = refl; task = refl; cost = refl; deadline = refl; priority = refl; release = refl })), all-weaker (Has (j ∷ js)) (Origin e s) (λ x h. inl (subst (λ (ws : List Job). Has ws x) (sym w) h)) js (has-tail j js));
     to = subst (All (Fate e t)) (sym w) (inr (inl (subst (λ (ws : List Job). Has ws (worked j)) (sym v) (has-first (worked j) js))), all-weaker (Has (worked j ∷ js)) (Fate e t) (λ x h. inl (subst (λ (ws : List Job). Has ws x) (sym v) h)) js (has-tail (worked j) js)) }
 
 goes : (g : JobKey → JobKey → Bool) (e : Event) (s t : State) → Kind g e s t → Goes-on e s t

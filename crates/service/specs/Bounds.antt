@@ -13,7 +13,7 @@ use Rattle.sources.specs.declared.trigger.Trigger.{Trigger}
 
 use Rattle.parts.specs.declared.part.Variable.{Variable}
 use Rattle.sequence.specs.Plan.{Plan, Valid}
-use Rattle.runs.specs.declared.event.Phase.the-variants.{Pass}
+use Rattle.runs.specs.declared.event.Phase.the-variants.{Late, Pass}
 use Rattle.runs.specs.declared.event.Cause.the-variants.{Overload}
 use Rattle.runs.specs.declared.event.Event.{Event}
 use Rattle.runs.specs.State.{State}
@@ -43,6 +43,8 @@ pub record Bounded (p : Plan) (s : State) : Type 0 where
   -- no clock was zeroed later than now, no job released later
   pub zeroed : (c : ℕ) → getD (s .zeroed) c 0 ≤ s .now
   pub releases : All (λ j. j .release ≤ s .now) (s .waiting)
+  -- once the late ones were looked for, no job waits past its deadline
+  pub in-time : (s .phase ≡ Late → ⊥) → All (λ j. s .now ≤ j .release + j .deadline) (s .waiting)
   -- in a closed tick nothing is present
   pub closed : s .phase ≡ Pass → None-present (s .present)
 

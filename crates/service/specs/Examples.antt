@@ -1,9 +1,10 @@
 -- Worked facts about jobs: deadlines met and missed, releases, a task's assignments, and one whole run.
 use mathlib.Core.Path.{_≡_}
-use mathlib.Core.List.{List, [], _∷_}
+use mathlib.Core.List.{List, [], _∷_, _++_}
 use mathlib.Core.Bool.{Bool, true, false}
 use Prim.Native.Nat.{ℕ}
 use lib.IntN.{pos}
+use lib.ListN.{replicate}
 use Rattle.std.specs.declared.option.Option.{Option}
 use Rattle.std.specs.declared.option.Option.the-variants.{Some, None}
 use Rattle.jobs.specs.Orders.{fp-before}
@@ -13,7 +14,7 @@ use Rattle.parts.specs.declared.part.Condition.the-variants.{Clock, Variable}
 use Rattle.parts.specs.declared.part.Location.{Location}
 use Rattle.parts.specs.declared.part.Label.the-variants as label
 use Rattle.sequence.specs.Plan.{Plan}
-use Rattle.runs.specs.declared.event.Cause.the-variants.{Deadline, TaskRange}
+use Rattle.runs.specs.declared.event.Cause.the-variants.{Deadline, TaskRange, Overload}
 use Rattle.runs.specs.declared.event.Line.{Line}
 use Rattle.runs.specs.declared.event.Line.the-variants as line
 use Rattle.runs.specs.Examples.{Shows, place, edge, guarded, set-to, add-to}
@@ -49,6 +50,13 @@ spoil-plan = record {
     locations = place 0 [] ∷ working 0 1 ∷ [];
     edges = edge 0 1 label.Internal [] [] ∷ [] }
 
+-- every step releases a job
+abbrev pub overload-plan : Plan
+overload-plan = record {
+    counts = record { automata = 1; clocks = 0; triggers = 0; channels = 0 }; variables = [];
+    tasks = record { cost = 1; deadline = 9; priority = 1; assignments = [] } ∷ [];
+    locations = working 0 0 ∷ []; edges = edge 0 0 label.Internal [] [] ∷ [] }
+
 -- a trigger starts a wait of four ticks, then a task of three that counts its jobs, then all begins anew
 abbrev pub exposure-plan : Plan
 exposure-plan = record {
@@ -69,6 +77,8 @@ pub record Service-facts : Type 0 where
   pub sender-released-first : Shows fp-before release-plan [] (line.Edge 0 0 (Some 1) ∷ line.Done 1 1 0 ∷ line.Done 2 0 1 ∷ []) [] (1 ∷ 3 ∷ [])
   -- nothing of a task's assignments stands where one of them leaves its range
   pub spoiled : Shows fp-before spoil-plan [] (line.Edge 0 0 None ∷ line.End 1 TaskRange 0 ∷ []) (pos 0 ∷ []) (1 ∷ [])
+  -- 32 jobs wait, and a 33rd ends the run at the edge
+  pub overload : Shows fp-before overload-plan [] (replicate 32 (line.Edge 0 0 None) ++ line.End 0 Overload 0 ∷ []) [] (0 ∷ [])
   -- a whole run: triggers at 2 and 3, closed at 20
   pub exposure : Shows fp-before exposure-plan (record { tick = 2; number = 0 } ∷ record { tick = 3; number = 0 } ∷ [])
     (line.Edge 2 0 None ∷ line.Miss 3 0 ∷ line.Edge 6 1 None ∷ line.Done 9 0 0 ∷ line.Edge 9 2 None ∷ []) (pos 0 ∷ []) (0 ∷ [])

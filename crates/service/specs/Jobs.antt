@@ -11,6 +11,8 @@ use Rattle.jobs.specs.declared.job.Job.{Job}
 use Rattle.jobs.specs.declared.job.JobKey.{JobKey}
 use Rattle.jobs.specs.Jobs.{worked}
 use Rattle.sources.specs.declared.trigger.Trigger.{Trigger}
+use Rattle.std.specs.Finite.{nth}
+use Rattle.parts.specs.declared.part.Task.{Task}
 use Rattle.sequence.specs.Plan.{Plan}
 use Rattle.runs.specs.declared.event.Worker.{Worker}
 use Rattle.runs.specs.declared.event.Line.the-variants as line
@@ -20,9 +22,18 @@ use Rattle.runs.specs.State.{State}
 use Rattle.runs.specs.Runs.{Free, Free-run}
 use Rattle.runs.specs.Laws.{At-each}
 
+-- number, task, C, D, P and release tick are the same
+pub record Same-terms (k j : Job) : Type 0 where
+  pub number : j .number ≡ k .number
+  pub task : j .task ≡ k .task
+  pub cost : j .cost ≡ k .cost
+  pub deadline : j .deadline ≡ k .deadline
+  pub priority : j .priority ≡ k .priority
+  pub release : j .release ≡ k .release
+
 -- the job k worked in this event: its record but for one tick and the mark is as it was
 abbrev pub Worked-from : Event → State → Job → Type 0
-Worked-from e s j = (k : Job) × Has (s .waiting) k × (w : Worker) × (e ≡ Passed (Some w)) × (w .job ≡ k .number) × (j ≡ worked k)
+Worked-from e s j = (k : Job) × Has (s .waiting) k × (w : Worker) × (e ≡ Passed (Some w)) × (w .job ≡ k .number) × (j ≡ worked k) × Same-terms k j
 
 -- the step of an edge line released the job, at the tick of that line
 pub record Released-by (e : Event) (s : State) (j : Job) : Type 0 where
@@ -32,6 +43,11 @@ pub record Released-by (e : Event) (s : State) (j : Job) : Type 0 where
   pub line-is : e ≡ Made (line.Edge tick number partner)
   pub released-then : j .release ≡ tick
   pub new : s .next ≤ j .number
+  pub terms : Task
+  pub of-task : nth (s .plan .tasks) (j .task) ≡ Some terms
+  pub cost : j .cost ≡ terms .cost
+  pub deadline : j .deadline ≡ terms .deadline
+  pub priority : j .priority ≡ terms .priority
   pub whole : j .remaining ≡ j .cost
   pub fresh : j .started ≡ false
 
