@@ -64,7 +64,7 @@ module _ {X : Type 0} where
       ∙ ap (λ z. z ++ x) (sym (ap (flat_map f) r.whole ∙ joined_push f r.front y))))
 
 -- a plan goes on to another by an item
-pub record Goes_on (p : Plan) (i : Item) (q : Plan) : Type 0 where
+pub record GoesOn (p : Plan) (i : Item) (q : Plan) : Type 0 where
   pub counts : q.counts ≡ p.counts
   pub items : part_items q ≡ part_items p ++ i ∷ []
   pub sound : sound q ≡ true
@@ -147,7 +147,7 @@ new_task_fits p f g =
     and_from _ _ c.0 (and_from _ _ d.0 (and_from _ _ d.1 (and_from _ _ e.1 refl)))
 
 module _ (p : Plan) (s : Sound p) where
-  variable_on : (f : Fields Var) → allowed Var p ≡ true → room Var p ≡ true → (row (there p) Var).good f ≡ true → Goes_on p (Var, f) (with_variable p (variable_of f))
+  variable_on : (f : Fields Var) → allowed Var p ≡ true → room Var p ≡ true → (row (there p) Var).good f ≡ true → GoesOn p (Var, f) (with_variable p (variable_of f))
   variable_on f h r g =
       let k = eqb-true (stage_rank (stage_of p)) 0 h in
       let t = no_tasks p (omega arith) in
@@ -159,7 +159,7 @@ module _ (p : Plan) (s : Sound p) where
         sound = variable_added p s (variable_of f) t l e (ltb-true _ _ r) (new_variable_fits p f g);
       }
 
-  task_on : (f : Fields Task) → allowed Task p ≡ true → room Task p ≡ true → (row (there p) Task).good f ≡ true → Goes_on p (Task, f) (with_task p (task_of f))
+  task_on : (f : Fields Task) → allowed Task p ≡ true → room Task p ≡ true → (row (there p) Task).good f ≡ true → GoesOn p (Task, f) (with_task p (task_of f))
   task_on f h r g =
       let k = leb-true (stage_rank (stage_of p)) 1 h in
       let l = no_locations p (omega arith) in
@@ -170,7 +170,7 @@ module _ (p : Plan) (s : Sound p) where
         sound = task_added p s (task_of f) l e (ltb-true _ _ r) (new_task_fits p f g);
       }
 
-  location_on : (f : Fields Loc) → allowed Loc p ≡ true → room Loc p ≡ true → (row (there p) Loc).good f ≡ true → next_automaton p f.0 ≡ true → Goes_on p (Loc, f) (with_location p (location_of f))
+  location_on : (f : Fields Loc) → allowed Loc p ≡ true → room Loc p ≡ true → (row (there p) Loc).good f ≡ true → next_automaton p f.0 ≡ true → GoesOn p (Loc, f) (with_location p (location_of f))
   location_on f h r g n =
       let k = leb-true (stage_rank (stage_of p)) 2 h in
       let e = no_edges p (omega arith) in
@@ -181,7 +181,7 @@ module _ (p : Plan) (s : Sound p) where
         sound = location_added p s (location_of f) e (ltb-true _ _ r) (and_from _ _ (present (length p.tasks) f.1 w.1) refl) n;
       }
 
-  edge_on : (f : Fields Edge) → room Edge p ≡ true → (row (there p) Edge).good f ≡ true → ends_fit p.locations (edge_of f) ≡ true → Goes_on p (Edge, f) (with_edge p (edge_of f))
+  edge_on : (f : Fields Edge) → room Edge p ≡ true → (row (there p) Edge).good f ≡ true → ends_fit p.locations (edge_of f) ≡ true → GoesOn p (Edge, f) (with_edge p (edge_of f))
   edge_on f r g n =
       let w = three_parts ((reference (length p.locations)).good f.0) ((reference (length p.locations)).good f.1) ((label p.counts.triggers p.counts.channels).good f.2) g in
       record {
@@ -196,7 +196,7 @@ module _ (p : Plan) (s : Sound p) where
       let w = three_parts ((reference n).good f.0) ((optional (reference n)).good f.1) ((integer lowest highest).good f.2) g in
       and_from _ _ (there_is f.0 n w.0) (and_from _ _ (present n f.1 w.1) w.2)
 
-  invariant_on : (f : Fields Inv) → allowed Inv p ≡ true → room Inv p ≡ true → (row (there p) Inv).good f ≡ true → Goes_on p (Inv, f) (with_last_location (limited (invariant_of f)) p)
+  invariant_on : (f : Fields Inv) → allowed Inv p ≡ true → room Inv p ≡ true → (row (there p) Inv).good f ≡ true → GoesOn p (Inv, f) (with_last_location (limited (invariant_of f)) p)
   invariant_on f h r g =
       let k = eqb-true (stage_rank (stage_of p)) 2 h in
       let e = no_edges p (omega arith) in
@@ -212,7 +212,7 @@ module _ (p : Plan) (s : Sound p) where
       }
 
   -- a line of the last edge
-  edge_grown : (g : EdgePart → EdgePart) (e : EdgePart) (i : Item) → last_of p.edges ≡ Some e → edge_items (g e) ≡ edge_items e ++ i ∷ [] → sound (with_last_edge g p) ≡ true → Goes_on p i (with_last_edge g p)
+  edge_grown : (g : EdgePart → EdgePart) (e : EdgePart) (i : Item) → last_of p.edges ≡ Some e → edge_items (g e) ≡ edge_items e ++ i ∷ [] → sound (with_last_edge g p) ≡ true → GoesOn p i (with_last_edge g p)
   edge_grown g e i l m fits = record {
     counts = refl;
     items = under (map variable_item p.variables) _ _ _ (under (flat_map task_items p.tasks) _ _ _ (under (flat_map location_items p.locations) _ _ _ (joined_change edge_items g p.edges e _ l m)));
@@ -222,7 +222,7 @@ module _ (p : Plan) (s : Sound p) where
   last_edge_facts : (e : EdgePart) → last_of p.edges ≡ Some e → EdgeFacts (scope p) e
   last_edge_facts e l = edge_facts (scope p) e (each_last (edge_fits (scope p)) p.edges e s.edges l)
 
-  condition_on : (c : Condition) → eqb (stage_rank (stage_of p)) 3 ≡ true → room Clk p ≡ true → condition_fits (scope p) c ≡ true → Goes_on p (condition_item c) (with_last_edge (guarded c) p)
+  condition_on : (c : Condition) → eqb (stage_rank (stage_of p)) 3 ≡ true → room Clk p ≡ true → condition_fits (scope p) c ≡ true → GoesOn p (condition_item c) (with_last_edge (guarded c) p)
   condition_on c h r fits =
       let k = eqb-true (stage_rank (stage_of p)) 3 h in
       let l = room_back (λ (x : EdgePart). has_room 4 x.guard) (last_of p.edges) r in
@@ -249,7 +249,7 @@ module _ (p : Plan) (s : Sound p) where
   by_four : (n : ℕ) → (eqb n 3 || eqb n 4) ≡ true → (3 ≤ n) × (n ≤ 4)
   by_four n h = ⊎_elim (λ e. let k = eqb-true n 3 e in (omega arith, omega arith)) (λ e. let k = eqb-true n 4 e in (omega arith, omega arith)) (or_cases (eqb n 3) (eqb n 4) h)
 
-  reset_on : (f : ℕ) → allowed Zero p ≡ true → room Zero p ≡ true → (row (there p) Zero).good f ≡ true → Goes_on p (Zero, f) (with_last_edge (resetting (record { clock = f })) p)
+  reset_on : (f : ℕ) → allowed Zero p ≡ true → room Zero p ≡ true → (row (there p) Zero).good f ≡ true → GoesOn p (Zero, f) (with_last_edge (resetting (record { clock = f })) p)
   reset_on f h r g =
       let k = by_four (stage_rank (stage_of p)) h in
       let l = room_back (λ (x : EdgePart). has_room 4 x.resets) (last_of p.edges) r in
@@ -258,7 +258,7 @@ module _ (p : Plan) (s : Sound p) where
       (resets_more (scope p) l.0 x (last_edge_facts l.0 l.1) l.2 (no_assignments p l.0 l.1 k.0 k.1))
       (edge_resets p s x (there_is f p.counts.clocks g))
 
-  set_on : (f : Fields Set) → allowed Set p ≡ true → room Set p ≡ true → (row (there p) Set).good f ≡ true → Goes_on p (Set, f) (with_assignment (assignment_of f) p)
+  set_on : (f : Fields Set) → allowed Set p ≡ true → room Set p ≡ true → (row (there p) Set).good f ≡ true → GoesOn p (Set, f) (with_assignment (assignment_of f) p)
   set_on f h r g = go (none p.edges) refl r
     where
       a : Assignment
@@ -270,7 +270,7 @@ module _ (p : Plan) (s : Sound p) where
       early : none p.edges ≡ true → stage_rank (stage_of p) ≡ 1
       early n = ⊎_elim (λ e. eqb-true (stage_rank (stage_of p)) 1 e) (λ e. never (sym n ∙ (in_edge p (leb-true 3 (stage_rank (stage_of p)) e)).0)) (or_cases (eqb (stage_rank (stage_of p)) 1) (leb 3 (stage_rank (stage_of p))) h)
 
-      go : (c : Bool) → none p.edges ≡ c → cond c (room_of (λ (t : TaskPart). has_room 4 t.assignments) (last_of p.tasks)) (room_of (λ (e : EdgePart). has_room 4 e.assignments) (last_of p.edges)) ≡ true → Goes_on p (Set, f) (cond c (with_last_task (assigning_task a) p) (with_last_edge (assigning_edge a) p))
+      go : (c : Bool) → none p.edges ≡ c → cond c (room_of (λ (t : TaskPart). has_room 4 t.assignments) (last_of p.tasks)) (room_of (λ (e : EdgePart). has_room 4 e.assignments) (last_of p.edges)) ≡ true → GoesOn p (Set, f) (cond c (with_last_task (assigning_task a) p) (with_last_edge (assigning_edge a) p))
       go true n r =
           let k = early n in
           let l = room_back (λ (t : TaskPart). has_room 4 t.assignments) (last_of p.tasks) r in
@@ -292,7 +292,7 @@ module _ (p : Plan) (s : Sound p) where
 
 -- what a line leads to: a plan with its item behind, or the end of a whole plan
 abbrev pub Leads : Plan → Item → Step → Type 0
-Leads p i (more q) = Goes_on p i q
+Leads p i (more q) = GoesOn p i q
 Leads p i done = (complete p ≡ true) × (i ≡ last_item p)
 
 pub leads : (p : Plan) → Sound p → (k : Key) (at : Place) (f : Fields k) (t : Step) → allowed k p ≡ true → room k p ≡ true → (row (there p) k).good f ≡ true → take_fields k p at f ≡ Ok t → Leads p (k, f) t

@@ -22,7 +22,7 @@ use Rattle.grammar.specs.Reading.{longest_text, key_and_value, value_place, coun
 use Rattle.grammar.specs.Laws.{ReadIsWritten, ReadIsValid, ReadOrRefused}
 use Rattle.grammar.proofs.Parsing.{not_ok, on_ok, cond_ok, join_pieces, same_true, one_back, count_back}
 use Rattle.grammar.proofs.Accepting.{keyed_back, take_back}
-use Rattle.grammar.proofs.Appending.{Goes_on, leads}
+use Rattle.grammar.proofs.Appending.{GoesOn, leads}
 
 -- ---- the lines behind the counts
 
@@ -44,7 +44,7 @@ reads_on (l ∷ m ∷ ls) p n q rest s e = go (take_line p n l) refl (λ t. read
     go (Ok (more t)) h ih e =
         let a = take_back p n l (more t) h in
         let i : Item = (a.key, a.fields) in
-        let b : Goes_on p i t = leads p s a.key a.at a.fields (more t) a.here a.fits a.good a.does in
+        let b : GoesOn p i t = leads p s a.key a.at a.fields (more t) a.here a.fits a.good a.does in
         let c = ih t (sound_facts t b.sound) e in
         record {
           items = i ∷ c.items;

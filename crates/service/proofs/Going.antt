@@ -20,7 +20,7 @@ use Rattle.runs.specs.Edges.{sides, released}
 use Rattle.runs.specs.Rules.{Takes}
 use Rattle.runs.specs.Runs.{Free}
 use Rattle.runs.proofs.Choosing.{at_each}
-use Rattle.service.specs.Jobs.{WorkedFrom, ReleasedBy, Origin, Fate, Goes_on, JobsGoOn}
+use Rattle.service.specs.Jobs.{WorkedFrom, ReleasedBy, Origin, Fate, GoesOn, JobsGoOn}
 use Rattle.service.proofs.Steps.{Kind, kind}
 use Rattle.service.proofs.Releasing.{all_put, all_kept}
 
@@ -45,7 +45,7 @@ has_tail x xs = All-weaker (Has xs) (Has (x ∷ xs)) (λ y h. has_behind x y xs 
 
 -- ---- by the kind of event
 
-same_jobs : (e : Event) (s t : State) → t.waiting ≡ s.waiting → Goes_on e s t
+same_jobs : (e : Event) (s t : State) → t.waiting ≡ s.waiting → GoesOn e s t
 same_jobs e s t w = record {
   from = subst (All (Origin e s)) (sym w) (All-weaker (Has s.waiting) (Origin e s) (λ j h. inl h) s.waiting (has_all s.waiting));
   to = All-weaker (Has s.waiting) (Fate e t) (λ j h. inl (subst (λ l. Has l j) (sym w) h)) s.waiting (has_all s.waiting);
@@ -65,7 +65,7 @@ taken_grows g e s n q l = all_kept g s.plan s.now (Grows e s) (λ i t u f h.
       to = All-weaker (Has u.jobs) (Has (put (job_before g) j u.jobs)) (λ k m. has_put (job_before g) j k u.jobs m) s.waiting h.to;
     })
 
-take_goes : (g : JobKey → JobKey → Bool) (k n : ℕ) (q : Option ℕ) (e : Event) (s t : State) → e ≡ Made (line.Edge k n q) → Takes g k n q s t → Goes_on e s t
+take_goes : (g : JobKey → JobKey → Bool) (k n : ℕ) (q : Option ℕ) (e : Event) (s t : State) → e ≡ Made (line.Edge k n q) → Takes g k n q s t → GoesOn e s t
 take_goes g k n q e s t l h =
     let ds = sides h.tries.edge h.tries.mate in
     let r : Grows e s (released g ds s) = taken_grows g e s n q (l ∙ ap (λ i. Made (line.Edge i n q)) h.tries.this_tick) ds (record { next = s.next; jobs = s.waiting })
@@ -75,20 +75,20 @@ take_goes g k n q e s t l h =
       to = All-weaker (Has (released g ds s).jobs) (Fate e t) (λ j m. inl (subst (λ (u : State). Has u.waiting j) (sym h.after) m)) s.waiting r.to;
     }
 
-done_goes : (e : Event) (s t : State) (j : Job) (js : List Job) (k i : ℕ) → s.waiting ≡ j ∷ js → t.waiting ≡ js → e ≡ Made (line.Done k i j.number) → Goes_on e s t
+done_goes : (e : Event) (s t : State) (j : Job) (js : List Job) (k i : ℕ) → s.waiting ≡ j ∷ js → t.waiting ≡ js → e ≡ Made (line.Done k i j.number) → GoesOn e s t
 done_goes e s t j js k i w v l = record {
   from = subst (All (Origin e s)) (sym v) (All-weaker (Has (j ∷ js)) (Origin e s) (λ x h. inl (subst (λ (ws : List Job). Has ws x) (sym w) h)) js (has_tail j js));
   to = subst (All (Fate e t)) (sym w) (inr (inr (k, i, l)), All-weaker (Has js) (Fate e t) (λ x h. inl (subst (λ (ws : List Job). Has ws x) (sym v) h)) js (has_all js));
 }
 
-pass_goes : (e : Event) (s t : State) (js : List Job) → s.waiting ≡ js → t.waiting ≡ serve_first js → e ≡ Passed (worker js) → Goes_on e s t
+pass_goes : (e : Event) (s t : State) (js : List Job) → s.waiting ≡ js → t.waiting ≡ serve_first js → e ≡ Passed (worker js) → GoesOn e s t
 pass_goes e s t [] w v l = same_jobs e s t (v ∙ sym w)
 pass_goes e s t (j ∷ js) w v l = record {
   from = subst (All (Origin e s)) (sym v) (inr (inl (j, subst (λ (ws : List Job). Has ws j) (sym w) (has_first j js), _, l, refl, refl, record { number = refl; task = refl; cost = refl; deadline = refl; priority = refl; release = refl })), All-weaker (Has (j ∷ js)) (Origin e s) (λ x h. inl (subst (λ (ws : List Job). Has ws x) (sym w) h)) js (has_tail j js));
   to = subst (All (Fate e t)) (sym w) (inr (inl (subst (λ (ws : List Job). Has ws (worked j)) (sym v) (has_first (worked j) js))), All-weaker (Has (worked j ∷ js)) (Fate e t) (λ x h. inl (subst (λ (ws : List Job). Has ws x) (sym v) h)) js (has_tail (worked j) js));
 }
 
-goes : (g : JobKey → JobKey → Bool) (e : Event) (s t : State) → Kind g e s t → Goes_on e s t
+goes : (g : JobKey → JobKey → Bool) (e : Event) (s t : State) → Kind g e s t → GoesOn e s t
 goes g e s t (inl h) = same_jobs e s t h.waiting
 goes g e s t (inr (inl (p, l, h))) = same_jobs e s t (ap (λ u. u.waiting) h.after)
 goes g e s t (inr (inr (inl (k, n, q, l, h)))) = take_goes g k n q e s t l h
@@ -96,4 +96,4 @@ goes g e s t (inr (inr (inr (inl (k, i, n, l, h))))) = done_goes e s t h.done.jo
 goes g e s t (inr (inr (inr (inr (w, l, h))))) = pass_goes e s t s.waiting refl (ap (λ u. u.waiting) h.after) (l ∙ ap Passed h.works)
 
 pub jobs_go_on : JobsGoOn
-jobs_go_on g p ts es t r = at_each (Free g) Goes_on (λ e s u h. goes g e s u (kind g e s u h)) (start p ts) es t r
+jobs_go_on g p ts es t r = at_each (Free g) GoesOn (λ e s u h. goes g e s u (kind g e s u h)) (start p ts) es t r

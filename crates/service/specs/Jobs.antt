@@ -52,10 +52,10 @@ Origin e s j = Has s.waiting j ⊎ (WorkedFrom e s j ⊎ ReleasedBy e s j)
 abbrev pub Fate : Event → State → Job → Type 0
 Fate e t j = Has t.waiting j ⊎ (Has t.waiting (worked j) ⊎ ((tick : ℕ) × (task : ℕ) × (e ≡ Made (line.Done tick task j.number))))
 
-pub record Goes_on (e : Event) (s t : State) : Type 0 where
+pub record GoesOn (e : Event) (s t : State) : Type 0 where
   pub from : All (Origin e s) t.waiting
   pub to : All (Fate e t) s.waiting
 
 -- a preempted job keeps what remains to it; C, D, P and the release tick of a job never change
 abbrev pub JobsGoOn : Type 0
-JobsGoOn = (g : JobKey → JobKey → Bool) (p : Plan) (ts : List Trigger) (es : List Event) (t : State) (r : FreeRun g p ts es t) → AtEach (Free g) Goes_on _ es t r
+JobsGoOn = (g : JobKey → JobKey → Bool) (p : Plan) (ts : List Trigger) (es : List Event) (t : State) (r : FreeRun g p ts es t) → AtEach (Free g) GoesOn _ es t r
