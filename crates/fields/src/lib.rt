@@ -1,4 +1,5 @@
 // The value of a line in fields, and what the fields say.
+#![tactic(auto)]
 pub mod field;
 mod number;
 pub mod value;

@@ -1,4 +1,5 @@
 // Examples of guards, the search, rows and strides.
+#![tactic(auto)]
 use guards::at_tick::guard_holds;
 use guards::over_ticks::first_tick;
 use jobs::Fp;

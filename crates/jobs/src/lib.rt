@@ -1,4 +1,6 @@
 // Jobs, and the orders that say which of two waiting jobs goes first.
+#![tactic(auto)]
+
 ghost use Rattle.std.specs.Prelude.{◌≡◌};
 ghost use Rattle.jobs.specs.declared.job.Job.{Job};
 ghost use Rattle.jobs.specs.declared.job.JobKey.{JobKey};

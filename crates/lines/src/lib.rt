@@ -1,4 +1,5 @@
 // The lines of a sequence text, each read into the part that it says.
+#![tactic(auto)]
 pub mod condition;
 pub mod counts;
 pub mod edge;

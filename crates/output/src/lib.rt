@@ -1,4 +1,5 @@
 // Bytes for a caller's buffer, written or only counted, and numbers as text.
+#![tactic(auto)]
 ghost use Rattle.std.specs.Prelude.{◌≡◌, ℕ, List, [], length, if◌then◌else◌, Ok, Err, decimal, nat_le};
 ghost use Rattle.std.specs.Fmt.{signed_decimal};
 ghost use Rattle.lexical.specs.Faults.{short_report};

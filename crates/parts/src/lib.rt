@@ -1,4 +1,6 @@
 // The parts of a sequence, and the limits that each has to keep.
+#![tactic(auto)]
+
 ghost use Rattle.std.specs.Prelude.{◌≡◌, Bool};
 ghost use Rattle.std.specs.List.{slice_get};
 ghost use Rattle.parts.specs.declared.part.Scope.{Scope};

@@ -1,4 +1,6 @@
 // Which of two records goes before the other, and the one insertion that keeps records in that order.
+#![tactic(auto)]
+
 ghost use Rattle.std.specs.Prelude.{◌≡◌, ◌≤◌, Bool, ◌∷◌, ◌++◌, length, take, drop};
 ghost use Rattle.precedence.specs.Laws.{WeakOrder};
 ghost use Rattle.precedence.specs.Sorted.{by_key, put};

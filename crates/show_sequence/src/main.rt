@@ -1,4 +1,5 @@
 // Builds one small sequence, an exposure, and prints what it holds, part by part.
+#![tactic(auto)]
 use anyhow::anyhow;
 use parts::part::{
     Assignment, Condition, Counts, Edge, Invariant, Label, Location, Relation, Reset, Rule, Task,

@@ -1,5 +1,7 @@
 // The triggers to come: what a source means, and the sources.
 // A table gives the caller's records, a tray what was put into it, and a pair what two sources give, as one.
+#![tactic(auto)]
+
 ghost use Rattle.std.specs.Prelude.{◌≡◌, List, [], nat_le, nat_lt};
 ghost use Rattle.precedence.specs.Sorted.{in_order};
 ghost use Rattle.sources.specs.declared.trigger.Trigger.{Trigger};

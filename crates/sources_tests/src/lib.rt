@@ -1,4 +1,5 @@
 // Examples of the sources: tables, trays and pairs.
+#![tactic(auto)]
 use sources::table::Table;
 use sources::tray::Tray;
 use sources::trigger::{PutFault, TableFault, Trigger};

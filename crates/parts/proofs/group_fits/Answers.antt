@@ -2,7 +2,7 @@ use Rattle.std.proofs.Common.{◌+◌, drop, sym}
 use Rattle.parts.specs.Limits.{group_fits}
 use Rattle.parts.proofs.Groups.{all_seen, step, unused, used, used_behind, used_unfit}
 use Rattle.parts.proofs.group_fits.Goals as goal
-use Rattle.parts.proofs.group_fits.Goals.{in-None, in-Some+else-over+else-not-fits-in}
+use Rattle.parts.proofs.group_fits.Goals.{in-None, in-Some+else-over+else-not-fits_in}
 
 pub returns-then-over : goal.returns-then-over
 returns-then-over g c =
@@ -10,10 +10,10 @@ returns-then-over g c =
     used_behind fits _ _ c.in-Some.x c.loop-part.over c.if-over.true
     (step fits c.args.row.now c.loop-part.part-index c.loop-part.over c.loop-part.invariant _ _ c.loop-part-test.true c.part-item.is c.in-Some.is)
 
-pub returns-then-not-fits-in : goal.returns-then-not-fits-in
-returns-then-not-fits-in g c =
+pub returns-then-not-fits_in : goal.returns-then-not-fits_in
+returns-then-not-fits_in g c =
     let fits = g.T.Refers.fits c.args.scope.now in
-    used_unfit fits _ _ c.in-Some.x c.loop-part.over c.if-over.false (sym c.if-not-fits-in.ensures)
+    used_unfit fits _ _ c.in-Some.x c.loop-part.over c.if-over.false (sym c.if-not-fits_in.ensures)
     (step fits c.args.row.now c.loop-part.part-index c.loop-part.over c.loop-part.invariant _ _ c.loop-part-test.true c.part-item.is c.in-Some.is)
 
 pub loop-part-preserved : goal.loop-part-preserved
@@ -24,7 +24,7 @@ loop-part-preserved g c =
     let over = c.loop-part.over in
     elim c.match-part.branch [
       | in-None w ↦ unused fits (drop (i + 1) row) (group_fits fits row) over c.match-part.over w.over-is (step fits row i over c.loop-part.invariant _ _ c.loop-part-test.true c.part-item.is w.in-None.is)
-      | in-Some+else-over+else-not-fits-in w ↦ used fits (drop (i + 1) row) (group_fits fits row) w.in-Some.x over c.match-part.over w.if-over.false w.over-is (sym w.if-not-fits-in.ensures) (step fits row i over c.loop-part.invariant _ _ c.loop-part-test.true c.part-item.is w.in-Some.is)
+      | in-Some+else-over+else-not-fits_in w ↦ used fits (drop (i + 1) row) (group_fits fits row) w.in-Some.x over c.match-part.over w.if-over.false w.over-is (sym w.if-not-fits_in.ensures) (step fits row i over c.loop-part.invariant _ _ c.loop-part-test.true c.part-item.is w.in-Some.is)
     ]
 
 pub returns : goal.returns

@@ -4,10 +4,10 @@ use Rattle.sources.specs.Lists.{rest}
 use Rattle.sources.proofs.Lists.{rest_further, further_in_order, further_within}
 use Rattle.sources.proofs.TableSource.remove.Goals as goal
 
-pub invariant-of-self : goal.invariant-of-self
-invariant-of-self c =
+pub invariant_of-self : goal.invariant_of-self
+invariant_of-self c =
     let t = c.args.self.now in
-    (further_in_order t.rows.now t.taken c.if-self.true t.ordered, (further_within t.rows.now t.taken c.if-self.true t.within, tt))
+    record { ordered = further_in_order t.rows.now t.taken c.if-self.true t.ordered; within = further_within t.rows.now t.taken c.if-self.true t.within }
 
 pub returns-then-self : goal.returns-then-self
 returns-then-self c = let t = c.args.self.now in rest_further t.rows.now t.taken c.if-self.true

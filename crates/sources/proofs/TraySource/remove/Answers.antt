@@ -7,21 +7,17 @@ use Rattle.sources.specs.Trays.{tray_list}
 use Rattle.sources.proofs.Lists.{rest_drop, rest_in_order, rest_within}
 use Rattle.sources.proofs.TraySource.remove.Goals as goal
 
-pub invariant-of-self : goal.invariant-of-self
-invariant-of-self c =
+pub invariant_of-self : goal.invariant_of-self
+invariant_of-self c =
     let t = c.args.self.now in
-    let e = front_removed t.slots t.len _ (omega arith) (omega arith) c.copy-within.ensures.after ∙ rest_drop (tray_list t) in (
-      omega (arith, c.copy-within.ensures.len),
-      (
-        omega arith,
-        (
-          subst (InOrder earlier) (sym e) (rest_in_order (tray_list t) t.ordered),
-          (subst (λ (l : List Trigger). all_within l ≡ true) (sym e) (rest_within (tray_list t) t.within), tt),
-        ),
-      ),
-    )
+    let e = front_removed t.slots t.len _ (omega arith) (omega arith) c.copy_within.ensures.after ∙ rest_drop (tray_list t) in record {
+      room = omega (arith, c.copy_within.ensures.len);
+      few = omega arith;
+      ordered = subst (InOrder earlier) (sym e) (rest_in_order (tray_list t) t.ordered);
+      within = subst (λ (l : List Trigger). all_within l ≡ true) (sym e) (rest_within (tray_list t) t.within);
+    }
 
 pub returns-then-len-gt0 : goal.returns-then-len-gt0
 returns-then-len-gt0 c =
     let t = c.args.self.now in
-    front_removed t.slots t.len _ (omega arith) (omega arith) c.copy-within.ensures.after ∙ rest_drop (tray_list t)
+    front_removed t.slots t.len _ (omega arith) (omega arith) c.copy_within.ensures.after ∙ rest_drop (tray_list t)

@@ -5,10 +5,10 @@ use Rattle.sources.specs.Lists.{earlier, all_within}
 use Rattle.sources.proofs.Checking.{table_empty}
 use Rattle.sources.proofs.table.Table.new.Goals as goal
 
-pub invariant-of-result : goal.invariant-of-result
-invariant-of-result c =
+pub invariant_of-result : goal.invariant_of-result
+invariant_of-result c =
     let rows = c.args.rows.now in
-    (at_drop_all (in_order earlier) rows (length rows) (omega arith), (at_drop_all all_within rows (length rows) (omega arith), tt))
+    record { ordered = at_drop_all (in_order earlier) rows (length rows) (omega arith); within = at_drop_all all_within rows (length rows) (omega arith) }
 
 pub returns-in-Err : goal.returns-in-Err
 returns-in-Err c =
