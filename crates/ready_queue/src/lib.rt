@@ -1,5 +1,6 @@
 // The ready queue: the jobs that wait for the one processor, in the order in which it serves them.
 #![tactic(auto)]
+
 ghost use Rattle.std.specs.Prelude.{◌≡◌, [], length};
 ghost use Rattle.std.specs.List.{slice_get};
 ghost use Rattle.jobs.specs.Jobs.{job_before};

@@ -10,7 +10,7 @@ use Rattle.parts.specs.declared.part.Task.{Task}
 use Rattle.parts.specs.declared.part.Location.{Location}
 use Rattle.parts.specs.declared.part.Edge.{Edge}
 use Rattle.parts.specs.declared.part.Scope.{Scope}
-use Rattle.parts.specs.Limits.{longest, none_left, group_fits, GroupOf, present_or_none, label_fits, assignment_fits, reset_fits, invariant_fits, condition_fits, task_fits, location_fits, edge_fits}
+use Rattle.parts.specs.Limits.{longest, none_left, group_fits, present_or_none, label_fits, assignment_fits, reset_fits, invariant_fits, condition_fits, task_fits, location_fits, edge_fits}
 use Rattle.sequence.specs.Plan.{Plan, scope, each, automaton_of, same_there, ends_fit, reached, next_of, in_turn, sound}
 use Rattle.sequence.specs.Growing.{used, fill, last_of, change_last, has_room, assigning_task, limited, guarded, resetting, assigning_edge, with_last_task, with_last_location, with_last_edge}
 use Rattle.sequence.proofs.Sound.{Sound, sound_from}
@@ -38,23 +38,14 @@ module _ {X : Type 0} (fits : X → Bool) where
   fits_fill x (None ∷ xs) h k = and_from _ _ k (none_fits xs h)
   fits_fill x (Some y ∷ xs) h k = let p = and_parts _ _ h in and_from _ _ p.0 (fits_fill x xs p.1 k)
 
-  -- a group stays one, also where it is full
-  pub group_fill : (n : ℕ) (x : X) (xs : List (Option X)) → GroupOf n fits xs ≡ true → fits x ≡ true → GroupOf n fits (fill x xs) ≡ true
-  group_fill n x xs h k =
-      let p = and_parts _ _ h in
-      and_from _ _ (eq-eqb _ _ (length_fill x xs ∙ eqb-true _ _ p.0)) (fits_fill x xs p.1 k)
-
   pub used_fill : (x : X) (xs : List (Option X)) → group_fits fits xs ≡ true → length (used xs) < length xs → used (fill x xs) ≡ used xs ++ x ∷ []
   used_fill x [] h l = absurd (omega arith)
   used_fill x (None ∷ xs) h l = let e = used_none xs h in ap (λ us. x ∷ us) e ∙ sym (ap (λ us. us ++ x ∷ []) e)
   used_fill x (Some y ∷ xs) h l = ap (λ us. y ∷ us) (used_fill x xs (and_parts _ _ h).1 (omega arith))
 
   -- with room, the part stands behind those in use
-  pub used_more : (n : ℕ) (x : X) (xs : List (Option X)) → GroupOf n fits xs ≡ true → has_room n xs ≡ true → used (fill x xs) ≡ used xs ++ x ∷ []
-  used_more n x xs h r =
-      let p = and_parts (eqb (length xs) n) (group_fits fits xs) h in
-      let places = eqb-true (length xs) n p.0 in
-      used_fill x xs p.1 (omega (arith, ltb-true (length (used xs)) n r))
+  pub used_more : (n : ℕ) (x : X) (xs : List (Option X)) → length xs ≡ n → group_fits fits xs ≡ true → has_room n xs ≡ true → used (fill x xs) ≡ used xs ++ x ∷ []
+  used_more n x xs places h r = used_fill x xs h (omega (arith, ltb-true (length (used xs)) n r))
 
 -- ---- the last of a list
 
@@ -98,34 +89,32 @@ pub record TaskFacts (s : Scope) (t : Task) : Type 0 where
   pub some : leb 1 t.cost ≡ true
   pub within : leb t.cost t.deadline ≡ true
   pub short : leb t.deadline longest ≡ true
-  pub urgent : leb t.priority 255 ≡ true
-  pub assignments : GroupOf 4 (assignment_fits s) t.assignments ≡ true
+  pub assignments : group_fits (assignment_fits s) t.assignments ≡ true
 
 pub task_facts : (s : Scope) (t : Task) → task_fits s t ≡ true → TaskFacts s t
 task_facts s t h =
     let x = and_parts (leb 1 t.cost) _ h in
     let y = and_parts (leb t.cost t.deadline) _ x.1 in
     let z = and_parts (leb t.deadline longest) _ y.1 in
-    let u = and_parts (leb t.priority 255) _ z.1 in
-    record { some = x.0; within = y.0; short = z.0; urgent = u.0; assignments = u.1 }
+    record { some = x.0; within = y.0; short = z.0; assignments = z.1 }
 
 pub task_from : (s : Scope) (t : Task) → TaskFacts s t → task_fits s t ≡ true
-task_from s t f = and_from _ _ f.some (and_from _ _ f.within (and_from _ _ f.short (and_from _ _ f.urgent f.assignments)))
+task_from s t f = and_from _ _ f.some (and_from _ _ f.within (and_from _ _ f.short f.assignments))
 
-pub location_facts : (s : Scope) (l : Location) → location_fits s l ≡ true → (present_or_none l.task s.tasks ≡ true) × (GroupOf 2 (invariant_fits s) l.invariants ≡ true)
+pub location_facts : (s : Scope) (l : Location) → location_fits s l ≡ true → (present_or_none l.task s.tasks ≡ true) × (group_fits (invariant_fits s) l.invariants ≡ true)
 location_facts s l h = and_parts _ _ h
 
 pub record EdgeFacts (s : Scope) (e : Edge) : Type 0 where
   pub label : label_fits s e.label ≡ true
-  pub guard : GroupOf 4 (condition_fits s) e.guard ≡ true
-  pub resets : GroupOf 4 (reset_fits s) e.resets ≡ true
-  pub assignments : GroupOf 4 (assignment_fits s) e.assignments ≡ true
+  pub guard : group_fits (condition_fits s) e.guard ≡ true
+  pub resets : group_fits (reset_fits s) e.resets ≡ true
+  pub assignments : group_fits (assignment_fits s) e.assignments ≡ true
 
 pub edge_facts : (s : Scope) (e : Edge) → edge_fits s e ≡ true → EdgeFacts s e
 edge_facts s e h =
     let x = and_parts (label_fits s e.label) _ h in
-    let y = and_parts (GroupOf 4 (condition_fits s) e.guard) _ x.1 in
-    let z = and_parts (GroupOf 4 (reset_fits s) e.resets) _ y.1 in
+    let y = and_parts (group_fits (condition_fits s) e.guard) _ x.1 in
+    let z = and_parts (group_fits (reset_fits s) e.resets) _ y.1 in
     record { label = x.0; guard = y.0; resets = z.0; assignments = z.1 }
 
 pub edge_from : (s : Scope) (e : Edge) → EdgeFacts s e → edge_fits s e ≡ true
@@ -219,24 +208,24 @@ module _ (p : Plan) (s : Sound p) where
   pub task_assigns : (a : Assignment) → assignment_fits (scope p) a ≡ true → sound (with_last_task (assigning_task a) p) ≡ true
   task_assigns a fits = task_changed (assigning_task a) (λ t h.
       let f = task_facts (scope p) t h in
-      task_from (scope p) (assigning_task a t) (record { some = f.some; within = f.within; short = f.short; urgent = f.urgent; assignments = group_fill (assignment_fits (scope p)) 4 a t.assignments f.assignments fits }))
+      task_from (scope p) (assigning_task a t) (record { some = f.some; within = f.within; short = f.short; assignments = fits_fill (assignment_fits (scope p)) a t.assignments f.assignments fits }))
 
   pub location_limited : (i : Invariant) → invariant_fits (scope p) i ≡ true → sound (with_last_location (limited i) p) ≡ true
   location_limited i fits = location_changed (limited i) (λ l. refl) (λ l h.
       let f = location_facts (scope p) l h in
-      and_from _ _ f.0 (group_fill (invariant_fits (scope p)) 2 i l.invariants f.1 fits))
+      and_from _ _ f.0 (fits_fill (invariant_fits (scope p)) i l.invariants f.1 fits))
 
   pub edge_guarded : (c : Condition) → condition_fits (scope p) c ≡ true → sound (with_last_edge (guarded c) p) ≡ true
   edge_guarded c fits = edge_changed (guarded c) (λ e h. h) (λ e h.
       let f = edge_facts (scope p) e h in
-      edge_from (scope p) (guarded c e) (record { label = f.label; guard = group_fill (condition_fits (scope p)) 4 c e.guard f.guard fits; resets = f.resets; assignments = f.assignments }))
+      edge_from (scope p) (guarded c e) (record { label = f.label; guard = fits_fill (condition_fits (scope p)) c e.guard f.guard fits; resets = f.resets; assignments = f.assignments }))
 
   pub edge_resets : (r : Reset) → reset_fits (scope p) r ≡ true → sound (with_last_edge (resetting r) p) ≡ true
   edge_resets r fits = edge_changed (resetting r) (λ e h. h) (λ e h.
       let f = edge_facts (scope p) e h in
-      edge_from (scope p) (resetting r e) (record { label = f.label; guard = f.guard; resets = group_fill (reset_fits (scope p)) 4 r e.resets f.resets fits; assignments = f.assignments }))
+      edge_from (scope p) (resetting r e) (record { label = f.label; guard = f.guard; resets = fits_fill (reset_fits (scope p)) r e.resets f.resets fits; assignments = f.assignments }))
 
   pub edge_assigns : (a : Assignment) → assignment_fits (scope p) a ≡ true → sound (with_last_edge (assigning_edge a) p) ≡ true
   edge_assigns a fits = edge_changed (assigning_edge a) (λ e h. h) (λ e h.
       let f = edge_facts (scope p) e h in
-      edge_from (scope p) (assigning_edge a e) (record { label = f.label; guard = f.guard; resets = f.resets; assignments = group_fill (assignment_fits (scope p)) 4 a e.assignments f.assignments fits }))
+      edge_from (scope p) (assigning_edge a e) (record { label = f.label; guard = f.guard; resets = f.resets; assignments = fits_fill (assignment_fits (scope p)) a e.assignments f.assignments fits }))

@@ -1,5 +1,6 @@
 // A sequence as a value: it can only be valid. A builder for callers who do not come from text, and reading access.
 #![tactic(auto)]
+
 ghost use Rattle.std.specs.Prelude.{◌≡◌, true, false, IfOk, Ok, Err, MatchResult};
 ghost use Rattle.std.specs.List.{slice_get};
 ghost use Rattle.sequence.specs.Plan.{scope, reached, automaton_of, ends_fit, complete};

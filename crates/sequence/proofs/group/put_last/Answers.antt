@@ -6,8 +6,8 @@ use Rattle.sequence.proofs.group.put_last.Goals as goal
 
 pub returns-then-len-ne0 : goal.returns-then-len-ne0
 returns-then-len-ne0 g c = record {
-  items = c.push-reserved.ensures.items ∙ sym (ap (change_last (λ _. c.args.part)) c.take-last.ensures.items ∙ change_push (λ _. c.args.part) (vec_items c.take-last.new.self) c.take-last.result);
-  capacity = c.push-reserved.ensures.capacity ∙ c.take-last.ensures.capacity;
+  items = c.push_reserved.ensures.items ∙ sym (ap (change_last (λ _. c.args.part)) c.take_last.ensures.items ∙ change_push (λ _. c.args.part) (vec_items c.take_last.new.self) c.take_last.result);
+  capacity = c.push_reserved.ensures.capacity ∙ c.take_last.ensures.capacity;
 }
 
 pub returns-else-len-ne0 : goal.returns-else-len-ne0

@@ -3,7 +3,7 @@ use Rattle.std.proofs.lemmas.List.{drop_more, drop_all}
 use Rattle.sequence.specs.Growing.{used}
 use Rattle.sequence.proofs.Filling.{count_used, count_free}
 use Rattle.sequence.proofs.group.used_places.Goals as goal
-use Rattle.sequence.proofs.group.used_places.Goals.{then-is-some, else-is-some}
+use Rattle.sequence.proofs.group.used_places.Goals.{then-is_some, else-is_some}
 
 pub loop-part-preserved : goal.loop-part-preserved
 loop-part-preserved g c =
@@ -12,9 +12,9 @@ loop-part-preserved g c =
     let d = c.part-item.result in
     let e = ap (λ ys. length (used ys)) (drop_more xs i d c.loop-part-test.true) in
     let here = ap is_some (sym c.part-item.is) in
-    elim c.if-is-some.branch [
-      | then-is-some w ↦ let u = count_used (get_or xs i d) (drop (i + 1) xs) (here ∙ sym w.if-is-some.ensures) in (omega (arith, e, u, w.count-is, c.loop-part.invariant.0), omega (arith, w.count-is, c.loop-part.invariant.1))
-      | else-is-some w ↦ let u = count_free (get_or xs i d) (drop (i + 1) xs) (here ∙ sym w.if-is-some.ensures) in (omega (arith, e, u, w.count-is, c.loop-part.invariant.0), omega (arith, w.count-is, c.loop-part.invariant.1))
+    elim c.if-is_some.branch [
+      | then-is_some w ↦ let u = count_used (get_or xs i d) (drop (i + 1) xs) (here ∙ sym w.if-is_some.ensures) in (omega (arith, e, u, w.count-is, c.loop-part.invariant.0), omega (arith, w.count-is, c.loop-part.invariant.1))
+      | else-is_some w ↦ let u = count_free (get_or xs i d) (drop (i + 1) xs) (here ∙ sym w.if-is_some.ensures) in (omega (arith, e, u, w.count-is, c.loop-part.invariant.0), omega (arith, w.count-is, c.loop-part.invariant.1))
     ]
 
 pub returns : goal.returns

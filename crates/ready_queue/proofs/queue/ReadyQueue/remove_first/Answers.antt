@@ -9,4 +9,4 @@ returns c =
     let q = c.args.self.now in
     let some : 0 < q.len = omega arith in
     let room : q.len ≤ length q.slots = omega arith in
-    leaves (waiting q) _ _ (front_at q.slots q.len 0 _ some room) (front_removed q.slots q.len _ some room c.copy-within.ensures.after)
+    leaves (waiting q) _ _ (front_at q.slots q.len 0 _ some room) (front_removed q.slots q.len _ some room c.copy_within.ensures.after)

@@ -6,13 +6,13 @@ use Rattle.sequence.specs.Model.{plan_of}
 use Rattle.sequence.proofs.Sound.{sound_facts, edge_added}
 use Rattle.sequence.proofs.draft.Draft.add_edge.Goals as goal
 
-pub invariant-of-self : goal.invariant-of-self
-invariant-of-self c =
+pub invariant_of-self : goal.invariant_of-self
+invariant_of-self c =
     let d = c.args.self.now in
     let p = plan_of d in
     let few : length p.edges < 128 = omega (arith, d.edges.ok.0) in
-    let fits : edge_fits (scope p) c.args.edge ≡ true = sym (ap (λ s. edge_fits s c.args.edge) c.scope.ensures) ∙ sym c.if-not-fits.ensures in (
-      subst (λ (xs : List Edge). sound (record { counts = p.counts; variables = p.variables; tasks = p.tasks; locations = p.locations; edges = xs }) ≡ true)
-          (sym c.push-reserved.ensures.items) (edge_added p (sound_facts p d.valid) c.args.edge few fits (sym c.if-not-ends-fit.ensures)),
-      ((d.room.0, d.room.1, d.room.2, omega (arith, c.push-reserved.ensures.capacity, d.room.3)), tt),
-    )
+    let fits : edge_fits (scope p) c.args.edge ≡ true = sym (ap (λ s. edge_fits s c.args.edge) c.scope.ensures) ∙ sym c.if-not-fits.ensures in record {
+      valid = subst (λ (xs : List Edge). sound (record { counts = p.counts; variables = p.variables; tasks = p.tasks; locations = p.locations; edges = xs }) ≡ true)
+          (sym c.push_reserved.ensures.items) (edge_added p (sound_facts p d.valid) c.args.edge few fits (sym c.if-not-ends_fit.ensures));
+      room = (d.room.0, d.room.1, d.room.2, omega (arith, c.push_reserved.ensures.capacity, d.room.3));
+    }

@@ -6,14 +6,14 @@ use Rattle.sequence.specs.Model.{plan_of}
 use Rattle.sequence.proofs.Sound.{sound_facts, location_added}
 use Rattle.sequence.proofs.draft.Draft.add_location.Goals as goal
 
-pub invariant-of-self : goal.invariant-of-self
-invariant-of-self c =
+pub invariant_of-self : goal.invariant_of-self
+invariant_of-self c =
     let d = c.args.self.now in
     let p = plan_of d in
     let e : length p.edges ≡ 0 = omega (arith, d.edges.ok.0) in
     let few : length p.locations < 64 = omega (arith, d.locations.ok.0) in
-    let fits : location_fits (scope p) c.args.location ≡ true = sym (ap (λ s. location_fits s c.args.location) c.scope.ensures) ∙ sym c.if-not-fits.ensures in (
-      subst (λ (xs : List Location). sound (record { counts = p.counts; variables = p.variables; tasks = p.tasks; locations = xs; edges = p.edges }) ≡ true)
-          (sym c.push-reserved.ensures.items) (location_added p (sound_facts p d.valid) c.args.location e few fits (sym c.if-not-is-next.ensures)),
-      ((d.room.0, d.room.1, omega (arith, c.push-reserved.ensures.capacity, d.room.2), d.room.3), tt),
-    )
+    let fits : location_fits (scope p) c.args.location ≡ true = sym (ap (λ s. location_fits s c.args.location) c.scope.ensures) ∙ sym c.if-not-fits.ensures in record {
+      valid = subst (λ (xs : List Location). sound (record { counts = p.counts; variables = p.variables; tasks = p.tasks; locations = xs; edges = p.edges }) ≡ true)
+          (sym c.push_reserved.ensures.items) (location_added p (sound_facts p d.valid) c.args.location e few fits (sym c.if-not-is_next.ensures));
+      room = (d.room.0, d.room.1, omega (arith, c.push_reserved.ensures.capacity, d.room.2), d.room.3);
+    }

@@ -9,19 +9,19 @@ use Rattle.sequence.proofs.Growing.{edge_resets}
 use Rattle.sequence.proofs.Filling.{put_is, resets_grown}
 use Rattle.sequence.proofs.draft.Draft.add_reset.Goals as goal
 
-pub invariant-of-self : goal.invariant-of-self
-invariant-of-self c =
+pub invariant_of-self : goal.invariant_of-self
+invariant_of-self c =
     let d = c.args.self.now in
     let p = plan_of d in
     let a = c.args.reset in
     let t = c.in-Some.edge in
     let o : last_of p.edges ≡ Some t = sym (ap last_of c.deref.ensures.value) ∙ (sym c.last.ensures ∙ c.in-Some.is) in
-    let e : vec_items c.put-last.new.row ≡ change_last (resetting a) p.edges = put_is (resetting a) p.edges (vec_items c.put-last.new.row) t c.resetting.result o c.resetting.ensures c.put-last.ensures.items in
-    let fits : reset_fits (scope p) a ≡ true = sym (ap (λ s. reset_fits s a) c.scope.ensures) ∙ sym c.if-not-fits-in.ensures in (
-      subst (λ (xs : List Edge). sound (record { counts = p.counts; variables = p.variables; tasks = p.tasks; locations = p.locations; edges = xs }) ≡ true)
-          (sym e) (edge_resets p (sound_facts p d.valid) a fits),
-      ((d.room.0, d.room.1, d.room.2, omega (arith, c.put-last.ensures.capacity, d.room.3)), tt),
-    )
+    let e : vec_items c.put_last.new.row ≡ change_last (resetting a) p.edges = put_is (resetting a) p.edges (vec_items c.put_last.new.row) t c.resetting.result o c.resetting.ensures c.put_last.ensures.items in
+    let fits : reset_fits (scope p) a ≡ true = sym (ap (λ s. reset_fits s a) c.scope.ensures) ∙ sym c.if-not-fits_in.ensures in record {
+      valid = subst (λ (xs : List Edge). sound (record { counts = p.counts; variables = p.variables; tasks = p.tasks; locations = p.locations; edges = xs }) ≡ true)
+          (sym e) (edge_resets p (sound_facts p d.valid) a fits);
+      room = (d.room.0, d.room.1, d.room.2, omega (arith, c.put_last.ensures.capacity, d.room.3));
+    }
 
 pub returns : goal.returns
 returns c =
@@ -30,8 +30,8 @@ returns c =
     let a = c.args.reset in
     let t = c.in-Some.edge in
     let o : last_of p.edges ≡ Some t = sym (ap last_of c.deref.ensures.value) ∙ (sym c.last.ensures ∙ c.in-Some.is) in
-    let e : vec_items c.put-last.new.row ≡ change_last (resetting a) p.edges = put_is (resetting a) p.edges (vec_items c.put-last.new.row) t c.resetting.result o c.resetting.ensures c.put-last.ensures.items in
-    let fits : reset_fits (scope p) a ≡ true = sym (ap (λ s. reset_fits s a) c.scope.ensures) ∙ sym c.if-not-fits-in.ensures in
-    let few : length (used t.resets) < 4 = omega (arith, c.used-places.ensures) in
+    let e : vec_items c.put_last.new.row ≡ change_last (resetting a) p.edges = put_is (resetting a) p.edges (vec_items c.put_last.new.row) t c.resetting.result o c.resetting.ensures c.put_last.ensures.items in
+    let fits : reset_fits (scope p) a ≡ true = sym (ap (λ s. reset_fits s a) c.scope.ensures) ∙ sym c.if-not-fits_in.ensures in
+    let few : length (used t.resets) < 4 = omega (arith, c.used_places.ensures) in
     resets_grown p a t o few fits
     ∙ ap (λ (xs : List Edge). Ok (record { counts = p.counts; variables = p.variables; tasks = p.tasks; locations = p.locations; edges = xs })) (sym e)

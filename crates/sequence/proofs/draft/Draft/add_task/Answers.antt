@@ -6,15 +6,15 @@ use Rattle.sequence.specs.Model.{plan_of}
 use Rattle.sequence.proofs.Sound.{sound_facts, task_added}
 use Rattle.sequence.proofs.draft.Draft.add_task.Goals as goal
 
-pub invariant-of-self : goal.invariant-of-self
-invariant-of-self c =
+pub invariant_of-self : goal.invariant_of-self
+invariant_of-self c =
     let d = c.args.self.now in
     let p = plan_of d in
     let l : length p.locations ≡ 0 = omega (arith, d.locations.ok.0) in
     let e : length p.edges ≡ 0 = omega (arith, d.edges.ok.0) in
     let few : length p.tasks < 16 = omega (arith, d.tasks.ok.0) in
-    let fits : task_fits (scope p) c.args.task ≡ true = sym (ap (λ s. task_fits s c.args.task) c.scope.ensures) ∙ sym c.if-not-fits.ensures in (
-      subst (λ (xs : List Task). sound (record { counts = p.counts; variables = p.variables; tasks = xs; locations = p.locations; edges = p.edges }) ≡ true)
-          (sym c.push-reserved.ensures.items) (task_added p (sound_facts p d.valid) c.args.task l e few fits),
-      ((d.room.0, omega (arith, c.push-reserved.ensures.capacity, d.room.1), d.room.2, d.room.3), tt),
-    )
+    let fits : task_fits (scope p) c.args.task ≡ true = sym (ap (λ s. task_fits s c.args.task) c.scope.ensures) ∙ sym c.if-not-fits.ensures in record {
+      valid = subst (λ (xs : List Task). sound (record { counts = p.counts; variables = p.variables; tasks = xs; locations = p.locations; edges = p.edges }) ≡ true)
+          (sym c.push_reserved.ensures.items) (task_added p (sound_facts p d.valid) c.args.task l e few fits);
+      room = (d.room.0, omega (arith, c.push_reserved.ensures.capacity, d.room.1), d.room.2, d.room.3);
+    }

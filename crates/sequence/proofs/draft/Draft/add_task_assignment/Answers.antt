@@ -9,19 +9,19 @@ use Rattle.sequence.proofs.Growing.{task_assigns}
 use Rattle.sequence.proofs.Filling.{put_is, task_grown}
 use Rattle.sequence.proofs.draft.Draft.add_task_assignment.Goals as goal
 
-pub invariant-of-self : goal.invariant-of-self
-invariant-of-self c =
+pub invariant_of-self : goal.invariant_of-self
+invariant_of-self c =
     let d = c.args.self.now in
     let p = plan_of d in
     let a = c.args.assignment in
     let t = c.in-Some.task in
     let o : last_of p.tasks ≡ Some t = sym (ap last_of c.deref.ensures.value) ∙ (sym c.last.ensures ∙ c.in-Some.is) in
-    let e : vec_items c.put-last.new.row ≡ change_last (assigning_task a) p.tasks = put_is (assigning_task a) p.tasks (vec_items c.put-last.new.row) t c.assigning-task.result o c.assigning-task.ensures c.put-last.ensures.items in
-    let fits : assignment_fits (scope p) a ≡ true = sym (ap (λ s. assignment_fits s a) c.scope.ensures) ∙ sym c.if-not-fits-in.ensures in (
-      subst (λ (xs : List Task). sound (record { counts = p.counts; variables = p.variables; tasks = xs; locations = p.locations; edges = p.edges }) ≡ true)
-          (sym e) (task_assigns p (sound_facts p d.valid) a fits),
-      ((d.room.0, omega (arith, c.put-last.ensures.capacity, d.room.1), d.room.2, d.room.3), tt),
-    )
+    let e : vec_items c.put_last.new.row ≡ change_last (assigning_task a) p.tasks = put_is (assigning_task a) p.tasks (vec_items c.put_last.new.row) t c.assigning_task.result o c.assigning_task.ensures c.put_last.ensures.items in
+    let fits : assignment_fits (scope p) a ≡ true = sym (ap (λ s. assignment_fits s a) c.scope.ensures) ∙ sym c.if-not-fits_in.ensures in record {
+      valid = subst (λ (xs : List Task). sound (record { counts = p.counts; variables = p.variables; tasks = xs; locations = p.locations; edges = p.edges }) ≡ true)
+          (sym e) (task_assigns p (sound_facts p d.valid) a fits);
+      room = (d.room.0, omega (arith, c.put_last.ensures.capacity, d.room.1), d.room.2, d.room.3);
+    }
 
 pub returns : goal.returns
 returns c =
@@ -30,8 +30,8 @@ returns c =
     let a = c.args.assignment in
     let t = c.in-Some.task in
     let o : last_of p.tasks ≡ Some t = sym (ap last_of c.deref.ensures.value) ∙ (sym c.last.ensures ∙ c.in-Some.is) in
-    let e : vec_items c.put-last.new.row ≡ change_last (assigning_task a) p.tasks = put_is (assigning_task a) p.tasks (vec_items c.put-last.new.row) t c.assigning-task.result o c.assigning-task.ensures c.put-last.ensures.items in
-    let fits : assignment_fits (scope p) a ≡ true = sym (ap (λ s. assignment_fits s a) c.scope.ensures) ∙ sym c.if-not-fits-in.ensures in
-    let few : length (used t.assignments) < 4 = omega (arith, c.used-places.ensures) in
+    let e : vec_items c.put_last.new.row ≡ change_last (assigning_task a) p.tasks = put_is (assigning_task a) p.tasks (vec_items c.put_last.new.row) t c.assigning_task.result o c.assigning_task.ensures c.put_last.ensures.items in
+    let fits : assignment_fits (scope p) a ≡ true = sym (ap (λ s. assignment_fits s a) c.scope.ensures) ∙ sym c.if-not-fits_in.ensures in
+    let few : length (used t.assignments) < 4 = omega (arith, c.used_places.ensures) in
     task_grown p a t (omega (arith, d.locations.ok.0)) (omega (arith, d.edges.ok.0)) o few fits
     ∙ ap (λ (xs : List Task). Ok (record { counts = p.counts; variables = p.variables; tasks = xs; locations = p.locations; edges = p.edges })) (sym e)

@@ -5,15 +5,15 @@ use Rattle.sequence.specs.Model.{plan_of}
 use Rattle.sequence.proofs.Sound.{sound_facts, variable_added}
 use Rattle.sequence.proofs.draft.Draft.add_variable.Goals as goal
 
-pub invariant-of-self : goal.invariant-of-self
-invariant-of-self c =
+pub invariant_of-self : goal.invariant_of-self
+invariant_of-self c =
     let d = c.args.self.now in
     let p = plan_of d in
     let t : length p.tasks ≡ 0 = omega (arith, d.tasks.ok.0) in
     let l : length p.locations ≡ 0 = omega (arith, d.locations.ok.0) in
     let e : length p.edges ≡ 0 = omega (arith, d.edges.ok.0) in
-    let few : length p.variables < 16 = omega (arith, d.variables.ok.0) in (
-      subst (λ (vs : List Variable). sound (record { counts = p.counts; variables = vs; tasks = p.tasks; locations = p.locations; edges = p.edges }) ≡ true)
-          (sym c.push-reserved.ensures.items) (variable_added p (sound_facts p d.valid) c.args.variable t l e few (sym c.if-not-fits.ensures)),
-      ((omega (arith, c.push-reserved.ensures.capacity, d.room.0), d.room.1, d.room.2, d.room.3), tt),
-    )
+    let few : length p.variables < 16 = omega (arith, d.variables.ok.0) in record {
+      valid = subst (λ (vs : List Variable). sound (record { counts = p.counts; variables = vs; tasks = p.tasks; locations = p.locations; edges = p.edges }) ≡ true)
+          (sym c.push_reserved.ensures.items) (variable_added p (sound_facts p d.valid) c.args.variable t l e few (sym c.if-not-fits.ensures));
+      room = (omega (arith, c.push_reserved.ensures.capacity, d.room.0), d.room.1, d.room.2, d.room.3);
+    }

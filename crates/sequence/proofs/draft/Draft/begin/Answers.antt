@@ -4,12 +4,12 @@ use Rattle.sequence.specs.Plan.{Plan, sound}
 use Rattle.sequence.proofs.Sound.{begun_is, begun_sound}
 use Rattle.sequence.proofs.draft.Draft.begin.Goals as goal
 
-pub invariant-of-result : goal.invariant-of-result
-invariant-of-result c =
+pub invariant_of-result : goal.invariant_of-result
+invariant_of-result c =
     let m = c.args.memory in
     let e = begun_is c.args.counts (vec_items m.variables) (vec_items m.tasks) (vec_items m.locations) (vec_items m.edges)
     (omega (arith, m.variables.ok.0, m.empty.0)) (omega (arith, m.tasks.ok.0, m.empty.1)) (omega (arith, m.locations.ok.0, m.empty.2)) (omega (arith, m.edges.ok.0, m.empty.3)) in
-    (subst (λ (p : Plan). sound p ≡ true) e (begun_sound c.args.counts (sym c.if-not-fit.ensures)), (m.room, tt))
+    record { valid = subst (λ (p : Plan). sound p ≡ true) e (begun_sound c.args.counts (sym c.if-not-fit.ensures)); room = m.room }
 
 pub returns : goal.returns
 returns c =
