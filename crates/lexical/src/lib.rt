@@ -1,5 +1,6 @@
 // The lexical parts of sequence text: bytes, keys, tokens and faults.
 #![tactic(auto)]
+
 ghost use Rattle.std.specs.Prelude.{◌≡◌};
 ghost use Rattle.lexical.specs.declared.fault.LineFault.TheVariants.{Number};
 ghost use Rattle.lexical.specs.declared.fault.SequenceFault.TheVariants.{Line};

@@ -1,5 +1,6 @@
 // Reads the records of a table and the triggers put into a tray, and prints what the pair of the two gives.
 #![tactic(auto)]
+
 use sources::table::Table;
 use sources::tray::Tray;
 use sources::trigger::{PutFault, TableFault, Trigger};

@@ -1,5 +1,6 @@
 // Bytes for a caller's buffer, written or only counted, and numbers as text.
 #![tactic(auto)]
+
 ghost use Rattle.std.specs.Prelude.{◌≡◌, ℕ, List, [], length, if◌then◌else◌, Ok, Err, decimal, nat_le};
 ghost use Rattle.std.specs.Fmt.{signed_decimal};
 ghost use Rattle.lexical.specs.Faults.{short_report};
@@ -142,7 +143,7 @@ impl<'a> Sink for Out<'a> {
 
 // A number's decimal digits.
 pub fn put_natural<S: Sink>(out: &mut S, n: u32)
-    ensures { Gives holds lender out.old (decimal n) out.new }
+    ensures { Gives S.Sink.holds S.Sink.lender out.old (decimal n) out.new }
 {
     if n >= 10 {
         put_natural(out, n / 10);
@@ -152,7 +153,7 @@ pub fn put_natural<S: Sink>(out: &mut S, n: u32)
 
 // The same with a minus sign before those below 0.
 pub fn put_integer<S: Sink>(out: &mut S, z: i32)
-    ensures { Gives holds lender out.old (signed_decimal z) out.new }
+    ensures { Gives S.Sink.holds S.Sink.lender out.old (signed_decimal z) out.new }
 {
     if z < 0 {
         out.put(b"-");

@@ -1,5 +1,6 @@
 // Examples of orders and of the ready queue.
 #![tactic(auto)]
+
 use jobs::job::{Job, JobKey, OrderName, Policy};
 use jobs::{Ed, Fc, Fp, Hold, Order};
 use precedence::{Keyed, Precedence};

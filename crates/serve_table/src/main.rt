@@ -1,5 +1,6 @@
 // Serves a table of releases on one processor, tick by tick, and prints which job worked when.
 #![tactic(auto)]
+
 ghost use Rattle.std.specs.Prelude.{◌≡◌};
 ghost use Rattle.serve_table.specs.Rows.{Checks};
 

@@ -1,5 +1,6 @@
 // Builds one small sequence, an exposure, and prints what it holds, part by part.
 #![tactic(auto)]
+
 use anyhow::anyhow;
 use parts::part::{
     Assignment, Condition, Counts, Edge, Invariant, Label, Location, Relation, Reset, Rule, Task,
@@ -232,10 +233,10 @@ fn main(rt: HostRuntime) -> anyhow::Result<()> {
         channels: 0,
     };
     let Ok(mut draft) = Draft::begin(memory, counts) else {
-        return Err(rule_text(Rule::BadCounts).into());
+        return Err(anyhow!("{}", rule_text(Rule::BadCounts)));
     };
     if let Err(rule) = add_parts(&mut draft) {
-        return Err(rule_text(rule).into());
+        return Err(anyhow!("{}", rule_text(rule)));
     }
     if let Err(rule) = draft.add_edge(plain(2, 3)) {
         let text = rule_text(rule);

@@ -11,6 +11,6 @@ only n h = let e : n % 10 ≡ n = omega arith in ap (λ (d : ℕ). (48 + d) ∷ 
 pub returns : goal.returns
 returns g t c =
     elim c.if-n-ge10.branch [
-      | then-n-ge10 w ↦ gives_as (sym (decimal_step c.args.n (omega arith) (omega arith))) (gives_then w.put-natural.ensures (gives_from (sym w.out-is) c.put.ensures))
+      | then-n-ge10 w ↦ gives_as (sym (decimal_step c.args.n (omega arith) (omega arith))) (gives_then w.put_natural.ensures (gives_from (sym w.out-is) c.put.ensures))
       | else-n-ge10 w ↦ gives_as (only c.args.n (omega arith)) (gives_from (sym w.out-is) c.put.ensures)
     ]

@@ -17,8 +17,8 @@ from_0 (negsuc m) n h e = absurd (let z : ◌≡◌ {A = ℕ} 0 1 = cc in omega 
 pub returns : goal.returns
 returns g c =
     let there : SFits w32 c.args.z = c.ranges.z in
-    let size : c.unsigned-abs.result ≡ nat_abs c.args.z = simp to_z-of_z at c.unsigned-abs.ensures.value in
+    let size : c.unsigned_abs.result ≡ nat_abs c.args.z = simp to_z-of_z at c.unsigned_abs.ensures.value in
     elim c.if-z-lt0.branch [
-      | then-z-lt0 w ↦ gives_as (below c.args.z c.unsigned-abs.result (simp to_z-of_z at w.if-z-lt0.true) size) (gives_then w.put.ensures (gives_from (sym w.out-is) c.put-natural.ensures))
-      | else-z-lt0 w ↦ gives_as (from_0 c.args.z c.unsigned-abs.result (simp to_z-of_z at w.if-z-lt0.false) size) (gives_from (sym w.out-is) c.put-natural.ensures)
+      | then-z-lt0 w ↦ gives_as (below c.args.z c.unsigned_abs.result (simp to_z-of_z at w.if-z-lt0.true) size) (gives_then w.put.ensures (gives_from (sym w.out-is) c.put_natural.ensures))
+      | else-z-lt0 w ↦ gives_as (from_0 c.args.z c.unsigned_abs.result (simp to_z-of_z at w.if-z-lt0.false) size) (gives_from (sym w.out-is) c.put_natural.ensures)
     ]

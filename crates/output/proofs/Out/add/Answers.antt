@@ -11,7 +11,7 @@ copied a xs ys zs e = put_mid-paste a ((a + length zs) - a) xs ys zs (length zs)
 pub returns : goal.returns
 returns c =
     record {
-      added = (search rules, omega arith, refl, copied c.args.self.now.len c.args.self.now.buf.now c.copy-from-slice.new.self c.args.bytes.now c.copy-from-slice.ensures.after);
+      added = (search rules, omega arith, refl, copied c.args.self.now.len c.args.self.now.buf.now c.copy_from_slice.new.self c.args.bytes.now c.copy_from_slice.ensures.after);
       short = refl;
       lender = refl;
     }
