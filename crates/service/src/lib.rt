@@ -1,5 +1,6 @@
 // The laws of service: each function names a law over runs that is proved.
 #![tactic(auto)]
+
 ghost use Rattle.service.specs.Examples.{ServiceFacts};
 ghost use Rattle.service.specs.Work.{TheRightJobWorks, WorksOnlyBetween, DoneMeansExactlyCWithinD};
 ghost use Rattle.service.specs.Jobs.{JobsGoOn};

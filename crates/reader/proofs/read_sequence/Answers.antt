@@ -14,18 +14,18 @@ returns-in-Err c = record { refused = bad_counts c.args.text.now c.if-text-gt-LO
 
 pub unreachable-requires : goal.unreachable-requires
 unreachable-requires c =
-    never_refused c.args.text.now c.if-text-gt-LONGEST-TEXT.false c.in-Ok.read.0 c.in-Ok.read.1.now c.in-Ok.ensures BadCounts c.in-default.ensures.0
+    never_refused c.args.text.now c.if-text-gt-LONGEST-TEXT.false c.in-Ok.read.0 c.in-Ok.read.1.now c.in-Ok.ensures BadCounts c.in_default.ensures.0
 
 pub read-lines-requires : goal.read-lines-requires
 read-lines-requires c = left c.args.text.now c.if-text-gt-LONGEST-TEXT.false c.in-Ok.read.0 c.in-Ok.read.1.now c.in-Ok.ensures
 
-pub unreachable-requires-in-default-finish : goal.unreachable-requires-in-default-finish
-unreachable-requires-in-default-finish c =
+pub unreachable-requires-in_default-finish : goal.unreachable-requires-in_default-finish
+unreachable-requires-in_default-finish c =
     let t = c.args.text.now in
     let short = c.if-text-gt-LONGEST-TEXT.false in
     let p = plan_of c.in-Ok-begin.draft in
     let b = begun_as t short c.in-Ok.read.0 c.in-Ok.read.1.now c.in-Ok.ensures p c.in-Ok-begin.ensures in
-    never_unfinished t short c.in-Ok.read.0 c.in-Ok.read.1.now c.in-Ok.ensures p b (plan_of c.read-lines.new.draft) c.in-Ok-read-lines.rest.now c.in-Ok-read-lines.ensures c.in-default-finish.ensures.1
+    never_unfinished t short c.in-Ok.read.0 c.in-Ok.read.1.now c.in-Ok.ensures p b (plan_of c.read-lines.new.draft) c.in-Ok-read-lines.rest.now c.in-Ok-read-lines.ensures c.in_default-finish.ensures.1
 
 pub returns-in-Err-read-lines : goal.returns-in-Err-read-lines
 returns-in-Err-read-lines c =

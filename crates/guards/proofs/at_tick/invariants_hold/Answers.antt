@@ -2,21 +2,21 @@ use Rattle.std.proofs.Common.{true, false, refl}
 use Rattle.runs.specs.Guards.{keeps, all_keep}
 use Rattle.guards.proofs.Groups.{all_seen, unused, used}
 use Rattle.guards.proofs.at_tick.invariants_hold.Goals as goal
-use Rattle.guards.proofs.at_tick.invariants_hold.Goals.{in-default, in-Some+else-not-invariant-holds}
+use Rattle.guards.proofs.at_tick.invariants_hold.Goals.{in_default, in-Some+else-not-invariant_holds}
 
-pub returns-then-not-invariant-holds : goal.returns-then-not-invariant-holds
-returns-then-not-invariant-holds c =
+pub returns-then-not-invariant_holds : goal.returns-then-not-invariant_holds
+returns-then-not-invariant_holds c =
     let zeroed = c.args.zeroed.now in
     let tick = c.args.tick in
-    used (keeps zeroed tick) (all_keep zeroed tick) c.args.invariants.now c.loop-place.place-index true c.loop-place.invariant (λ _. refl) c.loop-place-test.true c.in-Some.invariant false c.in-Some.is c.if-not-invariant-holds.ensures
+    used (keeps zeroed tick) (all_keep zeroed tick) c.args.invariants.now c.loop-place.place-index true c.loop-place.invariant (λ _. refl) c.loop-place-test.true c.in-Some.invariant false c.in-Some.is c.if-not-invariant_holds.ensures
 
 pub loop-place-preserved : goal.loop-place-preserved
 loop-place-preserved c =
     let zeroed = c.args.zeroed.now in
     let tick = c.args.tick in
     elim c.match-place.branch [
-      | in-Some+else-not-invariant-holds w ↦ used (keeps zeroed tick) (all_keep zeroed tick) c.args.invariants.now c.loop-place.place-index true c.loop-place.invariant (λ _. refl) c.loop-place-test.true w.in-Some.invariant true w.in-Some.is w.if-not-invariant-holds.ensures
-      | in-default w ↦ unused (keeps zeroed tick) (all_keep zeroed tick) c.args.invariants.now c.loop-place.place-index true c.loop-place.invariant (λ _. refl) c.loop-place-test.true w.in-default.is
+      | in-Some+else-not-invariant_holds w ↦ used (keeps zeroed tick) (all_keep zeroed tick) c.args.invariants.now c.loop-place.place-index true c.loop-place.invariant (λ _. refl) c.loop-place-test.true w.in-Some.invariant true w.in-Some.is w.if-not-invariant_holds.ensures
+      | in_default w ↦ unused (keeps zeroed tick) (all_keep zeroed tick) c.args.invariants.now c.loop-place.place-index true c.loop-place.invariant (λ _. refl) c.loop-place-test.true w.in_default.is
     ]
 
 pub returns : goal.returns

@@ -3,8 +3,8 @@ use Rattle.std.proofs.lemmas.Result.{err_from_is_err_and}
 use Rattle.lines.proofs.FirstLine.{no_line, first_line}
 use Rattle.lines.proofs.counts.count_line.Goals as goal
 
-pub returns-in-default : goal.returns-in-default
-returns-in-default c = record { read = no_line c.args.key c.args.low c.args.high c.args.number c.args.text.now c.in-default.ensures; within = tt }
+pub returns-in_default : goal.returns-in_default
+returns-in_default c = record { read = no_line c.args.key c.args.low c.args.high c.args.number c.args.text.now c.in_default.ensures; within = tt }
 
 pub returns-in-err-count : goal.returns-in-err-count
 returns-in-err-count c =

@@ -30,4 +30,4 @@ loop-line-preserved c =
     )
 
 pub returns : goal.returns
-returns c = sym c.loop-line.invariant.0 ∙ no_line (plan_of c.loop-line.draft) c.loop-line.number c.loop-line.rest.now c.in-default.ensures
+returns c = sym c.loop-line.invariant.0 ∙ no_line (plan_of c.loop-line.draft) c.loop-line.number c.loop-line.rest.now c.in_default.ensures

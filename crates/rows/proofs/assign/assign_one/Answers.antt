@@ -5,5 +5,5 @@ use Rattle.rows.proofs.assign.assign_one.Goals as goal
 
 pub returns : goal.returns
 returns c =
-    assigned c.args.variables.now c.args.values.now c.args.assignment c.in-Some.a c.in-Some-new-value.value _
-    c.in-Some.is (omega arith) c.in-Some-new-value.ensures (omega (arith, ints))
+    assigned c.args.variables.now c.args.values.now c.args.assignment c.in-Some.a c.in-Some-new_value.value _
+    c.in-Some.is (omega arith) c.in-Some-new_value.ensures (omega (arith, ints))

@@ -5,11 +5,11 @@ use Rattle.search.specs.Views.{state_of}
 use Rattle.search.proofs.Candidates.{shut_more, unfit_more, shut_absent, unfit_absent, no_partner, none_open, found_alone, found_pair}
 use Rattle.search.proofs.view.View.foremost.Goals as goal
 
-pub loop-i-preserved-in-default : goal.loop-i-preserved-in-default
-loop-i-preserved-in-default c rises covers =
+pub loop-i-preserved-in_default : goal.loop-i-preserved-in_default
+loop-i-preserved-in_default c rises covers =
     let s = state_of c.args.self.now in
     let cs = c.args.candidates.now in
-    shut_more s cs c.loop-i.i (get_or cs c.loop-i.i 0) (slice_get-get_or cs c.loop-i.i 0 c.loop-i-test.true) (shut_absent s cs _ (sym c.item.ensures ∙ c.in-default.is)) (c.loop-i.invariant rises covers)
+    shut_more s cs c.loop-i.i (get_or cs c.loop-i.i 0) (slice_get-get_or cs c.loop-i.i 0 c.loop-i-test.true) (shut_absent s cs _ (sym c.item.ensures ∙ c.in_default.is)) (c.loop-i.invariant rises covers)
 
 pub loop-i-preserved-then-not-ready : goal.loop-i-preserved-then-not-ready
 loop-i-preserved-then-not-ready c rises covers =
@@ -17,11 +17,11 @@ loop-i-preserved-then-not-ready c rises covers =
     let cs = c.args.candidates.now in
     shut_more s cs c.loop-i.i (get_or cs c.loop-i.i 0) (slice_get-get_or cs c.loop-i.i 0 c.loop-i-test.true) (shut_unready s _ c.in-Some.edge (sym c.item.ensures ∙ c.in-Some.is) (sym c.if-not-ready.ensures)) (c.loop-i.invariant rises covers)
 
-pub loop-j-preserved-in-default-item : goal.loop-j-preserved-in-default-item
-loop-j-preserved-in-default-item c =
+pub loop-j-preserved-in_default-item : goal.loop-j-preserved-in_default-item
+loop-j-preserved-in_default-item c =
     let s = state_of c.args.self.now in
     let cs = c.args.candidates.now in
-    unfit_more s cs (get_or cs c.loop-i.i 0) c.loop-j.j (get_or cs c.loop-j.j 0) (slice_get-get_or cs c.loop-j.j 0 c.loop-j-test.true) (unfit_absent s cs _ _ (sym c.item-in-loop-j.ensures ∙ c.in-default-item.is)) c.loop-j.invariant
+    unfit_more s cs (get_or cs c.loop-i.i 0) c.loop-j.j (get_or cs c.loop-j.j 0) (slice_get-get_or cs c.loop-j.j 0 c.loop-j-test.true) (unfit_absent s cs _ _ (sym c.item-in-loop-j.ensures ∙ c.in_default-item.is)) c.loop-j.invariant
 
 pub loop-j-preserved : goal.loop-j-preserved
 loop-j-preserved c =
