@@ -1,5 +1,6 @@
 // The search for the foremost open edge and its partner.
 #![tactic(auto)]
+
 ghost use Rattle.std.specs.Prelude.{◌≡◌, true, false, slice_index_or};
 ghost use Rattle.std.specs.List.{slice_get};
 ghost use Rattle.runs.specs.State.{automaton as automaton_of};

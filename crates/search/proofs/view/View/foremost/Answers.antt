@@ -35,14 +35,14 @@ loop-i-preserved c rises covers =
     let cs = c.args.candidates.now in
     let e = get_or cs c.loop-i.i 0 in
     shut_more s cs c.loop-i.i e (slice_get-get_or cs c.loop-i.i 0 c.loop-i-test.true)
-    (shut_unfit_by s e c.in-Some.edge (sym c.item.ensures ∙ c.in-Some.is) (sym c.if-goes-alone.ensures) (no_partner s cs rises covers e c.loop-j.j c.loop-j-test.false c.loop-j.invariant))
+    (shut_unfit_by s e c.in-Some.edge (sym c.item.ensures ∙ c.in-Some.is) (sym c.if-goes_alone.ensures) (no_partner s cs rises covers e c.loop-j.j c.loop-j-test.false c.loop-j.invariant))
     (c.loop-i.invariant rises covers)
 
-pub returns-then-goes-alone : goal.returns-then-goes-alone
-returns-then-goes-alone c rises covers =
+pub returns-then-goes_alone : goal.returns-then-goes_alone
+returns-then-goes_alone c rises covers =
     let s = state_of c.args.self.now in
     let cs = c.args.candidates.now in
-    found_alone s cs rises covers c.loop-i.i (get_or cs c.loop-i.i 0) c.in-Some.edge (slice_get-get_or cs c.loop-i.i 0 c.loop-i-test.true) (sym c.item.ensures ∙ c.in-Some.is) (sym c.if-not-ready.ensures) (c.loop-i.invariant rises covers) (sym c.if-goes-alone.ensures)
+    found_alone s cs rises covers c.loop-i.i (get_or cs c.loop-i.i 0) c.in-Some.edge (slice_get-get_or cs c.loop-i.i 0 c.loop-i-test.true) (sym c.item.ensures ∙ c.in-Some.is) (sym c.if-not-ready.ensures) (c.loop-i.invariant rises covers) (sym c.if-goes_alone.ensures)
 
 pub returns-then-fits : goal.returns-then-fits
 returns-then-fits c rises covers =
