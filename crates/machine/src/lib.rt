@@ -1,6 +1,7 @@
 // The inner parts of an engine: what is due in each phase, and what each event changes.
 // They are for the layers above in this workspace; nothing is promised to other callers.
 #![tactic(auto)]
+
 ghost use Rattle.std.specs.Prelude.{◌≡◌, ◌<◌, true, [], slice_set};
 ghost use Rattle.ready_queue.specs.Waiting.{waiting, first_late};
 ghost use Rattle.runs.specs.State.{in_phase, stopped, with_jobs, with_triggers};

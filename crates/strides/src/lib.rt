@@ -1,5 +1,6 @@
 // Strides: quiet ticks pass together.
 #![tactic(auto)]
+
 ghost use Rattle.runs.specs.State.{State};
 ghost use Rattle.strides.specs.Quiet.{QuietTicksPassTogether};
 ghost use Rattle.strides.specs.Strides.{Shown, Closed, StrideEnd};

@@ -9,7 +9,7 @@ use Rattle.strides.proofs.by_edges.by_edges.Goals.{in-Some, in_default}
 pub loop-e-preserved : goal.loop-e-preserved
 loop-e-preserved c =
     elim c.match-item.branch [
-      | in-Some w ↦ edge_more c.args.view.now (λ d t. EdgeShut (at_tick t (state_of c.args.view.now)) d) c.args.reach c.loop-e.e c.loop-e.end w.by-edge-end.result c.match-item.end w.in-Some.edge w.end-is (sym w.in-Some.ensures) c.loop-e.invariant w.by-edge-end.ensures
+      | in-Some w ↦ edge_more c.args.view.now (λ d t. EdgeShut (at_tick t (state_of c.args.view.now)) d) c.args.reach c.loop-e.e c.loop-e.end w.by_edge-end.result c.match-item.end w.in-Some.edge w.end-is (sym w.in-Some.ensures) c.loop-e.invariant w.by_edge-end.ensures
       | in_default w ↦ edge_skip c.args.view.now (λ d t. EdgeShut (at_tick t (state_of c.args.view.now)) d) c.args.reach c.loop-e.e c.loop-e.end c.match-item.end w.end-is (sym w.in_default.ensures) c.loop-e.invariant
     ]
 

@@ -8,4 +8,4 @@ pub returns : goal.returns
 returns c =
     let m = c.args.self.now in
     let n = m.sequence.draft.counts.triggers in
-    ap (λ ps. with_triggers ps [] (model [] m)) (ap (take n) c.set-item.ensures ∙ take_set n m.present c.args.trigger c.args.present)
+    ap (λ ps. with_triggers ps [] (model [] m)) (ap (take n) c.set_item.ensures ∙ take_set n m.present c.args.trigger c.args.present)
