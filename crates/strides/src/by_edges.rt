@@ -30,7 +30,7 @@ fn before_span(span: Span, from: u32, reach: u32) -> u32
 
 // An edge's guard begins to hold.
 fn by_guard(view: &View, edge: &Edge, reach: u32) -> u32
-    ensures { ViewReaches view.now (λ t. guard_holds view.now.zeroed.now view.now.values.now t edge.now.guard ≡ false) reach result }
+    ensures { ViewReaches view.entry.now (λ t. guard_holds view.entry.now.zeroed.now view.entry.now.values.now t edge.now.guard ≡ false) reach result }
 {
     before_span(
         guard_span(&edge.guard, view.zeroed, view.values),
@@ -41,7 +41,7 @@ fn by_guard(view: &View, edge: &Edge, reach: u32) -> u32
 
 // Whether an edge could be another's partner, but for the guards.
 fn could_join(view: &View, edge: &Edge, partner: &Edge) -> bool
-    ensures { result ≡ joins (state_of view.now) edge.now partner.now }
+    ensures { result ≡ joins (state_of view.entry.now) edge.now partner.now }
 {
     view.automaton(edge.from) != view.automaton(partner.from)
         && view.leaves_current(partner)
@@ -50,7 +50,7 @@ fn could_join(view: &View, edge: &Edge, partner: &Edge) -> bool
 
 // The guards of an edge and a partner begin to hold together.
 fn by_partner(view: &View, edge: &Edge, partner: &Edge, reach: u32) -> u32
-    ensures { ViewReaches view.now (λ t. pairs_at (state_of view.now) t edge.now partner.now ≡ false) reach result }
+    ensures { ViewReaches view.entry.now (λ t. pairs_at (state_of view.entry.now) t edge.now partner.now ≡ false) reach result }
 {
     if !could_join(view, edge, partner) {
         return reach;
@@ -62,7 +62,7 @@ fn by_partner(view: &View, edge: &Edge, partner: &Edge, reach: u32) -> u32
 
 // An edge's guard and that of any partner begin to hold together.
 fn by_partners(view: &View, edge: &Edge, reach: u32) -> u32
-    ensures { ViewReaches view.now (λ t. All (λ c. pairs_at (state_of view.now) t edge.now c ≡ false) view.now.edges.now) reach result }
+    ensures { ViewReaches view.entry.now (λ t. All (λ c. pairs_at (state_of view.entry.now) t edge.now c ≡ false) view.entry.now.edges.now) reach result }
 {
     let mut end = reach;
     for p in 0..view.edges.len() {
@@ -75,7 +75,7 @@ fn by_partners(view: &View, edge: &Edge, reach: u32) -> u32
 
 // An edge opens.
 fn by_edge(view: &View, edge: &Edge, reach: u32) -> u32
-    ensures { ViewReaches view.now (λ t. EdgeShut (at_tick t (state_of view.now)) edge.now) reach result }
+    ensures { ViewReaches view.entry.now (λ t. EdgeShut (at_tick t (state_of view.entry.now)) edge.now) reach result }
 {
     if !view.leaves_current(edge) {
         reach
@@ -88,7 +88,7 @@ fn by_edge(view: &View, edge: &Edge, reach: u32) -> u32
 
 // Any edge opens.
 pub fn by_edges(view: &View, reach: u32) -> u32
-    ensures { ViewReaches view.now (λ t. NoneOpen (at_tick t (state_of view.now))) reach result }
+    ensures { ViewReaches view.entry.now (λ t. NoneOpen (at_tick t (state_of view.entry.now))) reach result }
 {
     let mut end = reach;
     for e in 0..view.edges.len() {

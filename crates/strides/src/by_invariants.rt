@@ -50,7 +50,7 @@ fn by_location(location: Option<Location>, zeroed: &[u32], from: u32, reach: u32
 
 // A current location may no longer be kept.
 pub fn by_invariants(view: &View, reach: u32) -> u32
-    ensures { view.now.now ≤ reach → Reaches (λ t. (a : ℕ) → may_stay (state_of view.now) t a ≡ true) view.now.now reach result }
+    ensures { view.entry.now.now ≤ reach → Reaches (λ t. (a : ℕ) → may_stay (state_of view.entry.now) t a ≡ true) view.entry.now.now reach result }
 {
     let mut end = reach;
     for a in 0..view.places.len() {

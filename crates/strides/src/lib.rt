@@ -21,7 +21,7 @@ use sources::trigger::Trigger;
 // A stride stops in front of the tick at which the first job is done, a job is late, a trigger comes, an edge opens or an
 // invariant fails.
 pub fn stride_end(view: &View, queue: &ReadyQueue, first: Option<Trigger>, until: u32) -> u32
-    ensures { (s : State) → Shown view.now queue.now first s → Closed s → StrideEnd s until result }
+    ensures { (s : State) → Shown view.entry.now queue.now first s → Closed s → StrideEnd s until result }
 {
     let reach = until.min(LAST_TICK);
     if reach <= view.now {
