@@ -1,5 +1,6 @@
 // Examples of guards, the search, rows and strides.
 #![tactic(auto)]
+
 use guards::at_tick::guard_holds;
 use guards::over_ticks::first_tick;
 use jobs::Fp;

@@ -1,7 +1,7 @@
 -- What follows from the laws of a weak order.
 use Rattle.std.proofs.Common.{◌≡◌, Bool, true, false, List, [], ◌∷◌, sym, refl, ◌∙◌, ⊎_elim}
 use Rattle.std.proofs.lemmas.Bool.{cases_Bool, both_ways, and_parts, and_from, not-true, not_from_false}
-use Rattle.std.specs.List.{AllByRecursion as All}
+use Rattle.std.specs.List.{AllByRecursion}
 use Rattle.precedence.specs.Laws.{WeakOrder}
 use Rattle.precedence.specs.Sorted.{by_key, none_before, InOrder}
 
@@ -40,7 +40,7 @@ module _ {X : Type 0} (g : X → X → Bool) (w : WeakOrder g) where
       let p = and_parts _ _ n in
       and_from _ _ (not_from_false _ (not_before z y x (not-true _ p.0) h)) (none_below x y zs h p.1)
 
-  pub before_all : (x y : X) (ys : List X) → g x y ≡ true → none_before g y ys ≡ true → All (λ z. g x z ≡ true) ys
+  pub before_all : (x y : X) (ys : List X) → g x y ≡ true → none_before g y ys ≡ true → AllByRecursion (λ z. g x z ≡ true) ys
   before_all x y [] t n = tt
   before_all x y (z ∷ zs) t n =
       let p = and_parts _ _ n in

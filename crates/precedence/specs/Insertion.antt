@@ -1,6 +1,6 @@
 -- What an insertion does.
 use Rattle.std.specs.Prelude.{◌≡◌, ℕ, ◌+◌, ◌<◌, ◌≤◌, Bool, true, false, List, [], ◌∷◌, ◌++◌, length, take, drop, Ok, Err, Result}
-use Rattle.std.specs.List.{AllByRecursion as All}
+use Rattle.std.specs.List.{AllByRecursion}
 use Rattle.precedence.specs.Sorted.{InOrder, put}
 
 -- The old records as they stood, each once, and x among them.
@@ -11,9 +11,9 @@ pub record Inserted {X : Type 0} (g : X → X → Bool) (x : X) (old new : List 
   pub old_is : old ≡ front ++ back
   pub new_is : new ≡ front ++ (x ∷ back)
   -- x goes before none of those in front of it
-  pub behind : All (λ y. g x y ≡ false) front
+  pub behind : AllByRecursion (λ y. g x y ≡ false) front
   -- and, where the old ones were in order, before each of those behind it
-  pub ahead : InOrder g old → All (λ y. g x y ≡ true) back
+  pub ahead : InOrder g old → AllByRecursion (λ y. g x y ≡ true) back
   pub ordered : InOrder g old → InOrder g new
 
 -- of a row whose first len places are in use

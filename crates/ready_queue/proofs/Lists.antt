@@ -1,6 +1,6 @@
 -- Laws of the waiting list.
 use Rattle.std.proofs.Common.{◌≡◌, ℕ, zero, suc, ◌+◌, ◌-◌, ◌<◌, ◌≤◌, Bool, true, false, cond, not, List, [], ◌∷◌, ◌++◌, length, get_or, take, drop, set, Some, None, Option, sym, refl, ap, ◌∙◌, subst, arith}
-use Rattle.std.specs.List.{slice_get, AllByRecursion as All}
+use Rattle.std.specs.List.{slice_get, AllByRecursion}
 use Rattle.std.proofs.lemmas.List.{at_drop_more, at_drop_all, length-take-le, get_or-take}
 use Rattle.std.proofs.lemmas.Bool.{cond-true, cond-false, cond_both, and_parts, and_from, not-true, not_from_false, not-false}
 use Rattle.precedence.specs.Laws.{WeakOrder}
@@ -14,7 +14,7 @@ use Rattle.ready_queue.specs.Waiting.{rest, serve_first, first_late, NewNumber, 
 use Rattle.ready_queue.specs.Calls.{Leads, Serves, Leaves}
 
 -- none before, as a fact of each
-pub none_before_all : {X : Type 0} (g : X → X → Bool) (x : X) (ys : List X) → none_before g x ys ≡ true → All (λ y. g y x ≡ false) ys
+pub none_before_all : {X : Type 0} (g : X → X → Bool) (x : X) (ys : List X) → none_before g x ys ≡ true → AllByRecursion (λ y. g y x ≡ false) ys
 none_before_all g x [] h = tt
 none_before_all g x (y ∷ ys) h = let p = and_parts _ _ h in (not-true _ p.0, none_before_all g x ys p.1)
 

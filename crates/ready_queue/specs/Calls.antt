@@ -1,6 +1,6 @@
 -- What the calls of the ready queue do, by the waiting jobs before and after.
 use Rattle.std.specs.Prelude.{◌≡◌, ℕ, ◌<◌, Bool, true, false, List, [], ◌∷◌, length, Some, None, Ok, Err, Option, Result}
-use Rattle.std.specs.List.{slice_get, AllByRecursion as All}
+use Rattle.std.specs.List.{slice_get, AllByRecursion}
 use Rattle.precedence.specs.Laws.{WeakOrder}
 use Rattle.precedence.specs.Sorted.{InOrder, put}
 use Rattle.precedence.specs.Insertion.{Inserted}
@@ -14,7 +14,7 @@ use Rattle.ready_queue.specs.Waiting.{rest, serve_first, NewNumber, NumbersApart
 -- under any order that the queue is kept in, no waiting job goes before the first
 abbrev pub Leads : List Job → Option Job → Type 0
 Leads js None = js ≡ []
-Leads js (Some j) = (g : JobKey → JobKey → Bool) → WeakOrder g → InOrder (job_before g) js → All (λ k. job_before g k j ≡ false) js
+Leads js (Some j) = (g : JobKey → JobKey → Bool) → WeakOrder g → InOrder (job_before g) js → AllByRecursion (λ k. job_before g k j ≡ false) js
 
 -- A release: the job is put at its place, the others stay as they were, each with the ticks that remain to it.
 abbrev pub Releases : (Job → Job → Bool) → Job → (before after : List Job) → Result Unit QueueFull → Type 0

@@ -1,6 +1,6 @@
 -- The waiting jobs as a list, the first one in front.
 use Rattle.std.specs.Prelude.{◌≡◌, ℕ, Bool, cond, List, [], ◌∷◌, take, Some, None, Option, ◌≢◌}
-use Rattle.std.specs.List.{AllByRecursion as All}
+use Rattle.std.specs.List.{AllByRecursion}
 use Rattle.jobs.specs.declared.job.Job.{Job}
 use Rattle.jobs.specs.Jobs.{late, worked}
 use Rattle.ready_queue.specs.declared.queue.ReadyQueue.{ReadyQueue}
@@ -25,7 +25,7 @@ first_late t (j ∷ js) = cond (late t j) (Some j) (first_late t js)
 
 -- no job of the list has this one's number
 abbrev pub NewNumber : Job → List Job → Type 0
-NewNumber j js = All (λ k. k.number ≢ j.number) js
+NewNumber j js = AllByRecursion (λ k. k.number ≢ j.number) js
 
 -- no two jobs have one number
 abbrev pub NumbersApart : List Job → Type 0

@@ -1,5 +1,6 @@
 // Every limit of a sequence at its edge and one over, through the builder.
 #![tactic(auto)]
+
 use parts::part::{
     Assignment, Condition, Counts, Edge, Invariant, Label, Location, Relation, Reset, Rule, Task,
     Variable,

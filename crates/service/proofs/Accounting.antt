@@ -1,6 +1,6 @@
 -- What each waiting job has worked and what remains make its C; nothing leaves its bounds.
 use Rattle.std.proofs.Common.{◌≡◌, ℕ, zero, suc, ◌+◌, ◌-◌, ◌<◌, ◌≤◌, Bool, true, false, cond, ◌&&◌, eqb, ltb, leb, ◌⊎◌, List, [], ◌∷◌, ◌++◌, length, get_or, set, replicate, ℤ, pos, Some, None, Option, sym, refl, ap, ◌∙◌, subst, inl, inr, arith, length-set, get_or-set_other, get_or-set_same}
-use Rattle.std.specs.List.{slice_get, AllByRecursion as All}
+use Rattle.std.specs.List.{slice_get, AllByRecursion}
 use Rattle.std.proofs.ByRecursion.{All-weaker}
 use Rattle.std.proofs.lemmas.List.{length-replicate, set_past}
 use Rattle.std.proofs.lemmas.Bool.{cases_eq, cases_lt, cases_Bool, cond_both, cond-true, cond-false, and_parts, and_from, ltb-true, ltb-false, le-ltb, leb-true, ne_eqb, eq-eqb, eqb-true, both_ways}
@@ -143,7 +143,7 @@ Busy j = 0 < j.remaining
 
 abbrev BusyRest : List Job → Type 0
 BusyRest [] = Unit {0}
-BusyRest (j ∷ js) = All Busy js
+BusyRest (j ∷ js) = AllByRecursion Busy js
 
 abbrev InTime : ℕ → Job → Type 0
 InTime n j = late n j ≡ false
@@ -155,11 +155,11 @@ FirstOver (j ∷ js) = j.remaining ≡ 0
 
 abbrev ByPhase : Phase → (now next : ℕ) → List Job → Type 0
 ByPhase Late now next js = BusyRest js × (next ≤ length js + (now - 1)) × (now ≡ 0 → js ≡ [])
-ByPhase Finish now next js = BusyRest js × All (InTime now) js × (next ≤ length js + now) × (FirstOver js → next + 1 ≤ length js + now)
-ByPhase Arrival now next js = All Busy js × (next ≤ length js + now) × All (InTime now) js
-ByPhase Edges now next js = All Busy js × (next ≤ length js + now) × All (InTime now) js
-ByPhase Close now next js = All Busy js × (next ≤ length js + now) × All (InTime now) js
-ByPhase Pass now next js = All Busy js × (next ≤ length js + now) × All (InTime now) js
+ByPhase Finish now next js = BusyRest js × AllByRecursion (InTime now) js × (next ≤ length js + now) × (FirstOver js → next + 1 ≤ length js + now)
+ByPhase Arrival now next js = AllByRecursion Busy js × (next ≤ length js + now) × AllByRecursion (InTime now) js
+ByPhase Edges now next js = AllByRecursion Busy js × (next ≤ length js + now) × AllByRecursion (InTime now) js
+ByPhase Close now next js = AllByRecursion Busy js × (next ≤ length js + now) × AllByRecursion (InTime now) js
+ByPhase Pass now next js = AllByRecursion Busy js × (next ≤ length js + now) × AllByRecursion (InTime now) js
 
 abbrev Spent : List Event → Job → Type 0
 Spent es j = ticks_worked j.number es + j.remaining ≡ j.cost
@@ -171,13 +171,13 @@ pub record Right (p : Plan) (es : List Event) (s : State) : Type 0 where
   pub steps : s.steps ≤ most_steps
   pub values : InRanges p.variables s.values
   pub time : s.now ≤ last_tick
-  pub spent : All (Spent es) s.waiting
+  pub spent : AllByRecursion (Spent es) s.waiting
   pub by_phase : ByPhase s.phase s.now s.next s.waiting
   pub places : length s.places ≡ p.counts.automata
   pub clocks : length s.zeroed ≡ p.counts.clocks
   pub triggers : length s.present ≡ p.counts.triggers
   pub zeroed : ZeroedBy s.now s.zeroed
-  pub releases : All (λ j. j.release ≤ s.now) s.waiting
+  pub releases : AllByRecursion (λ j. j.release ≤ s.now) s.waiting
   pub closed : s.phase ≡ Pass → NonePresent s.present
 
 -- ---- lists of jobs
@@ -186,24 +186,24 @@ serve_long : (js : List Job) → length (serve_first js) ≡ length js
 serve_long [] = refl
 serve_long (j ∷ js) = refl
 
-all_served : (P : Job → Type 0) → ((j : Job) → P j → P (worked j)) → (js : List Job) → All P js → All P (serve_first js)
+all_served : (P : Job → Type 0) → ((j : Job) → P j → P (worked j)) → (js : List Job) → AllByRecursion P js → AllByRecursion P (serve_first js)
 all_served P f [] h = h
 all_served P f (j ∷ js) h = (f j h.0, h.1)
 
-busy_served : (js : List Job) → All Busy js → BusyRest (serve_first js)
+busy_served : (js : List Job) → AllByRecursion Busy js → BusyRest (serve_first js)
 busy_served [] h = tt
 busy_served (j ∷ js) h = h.1
 
-busy_tail : (js : List Job) → All Busy js → BusyRest js
+busy_tail : (js : List Job) → AllByRecursion Busy js → BusyRest js
 busy_tail [] h = tt
 busy_tail (j ∷ js) h = h.1
 
-busy_first : (js : List Job) → All Busy js → FirstOver js → ⊥
+busy_first : (js : List Job) → AllByRecursion Busy js → FirstOver js → ⊥
 busy_first [] h f = f
 busy_first (j ∷ js) h f = omega (arith, h.0)
 
 -- nothing finished: all have work left
-busy_all : (js : List Job) → BusyRest js → finished js ≡ None → All Busy js
+busy_all : (js : List Job) → BusyRest js → finished js ≡ None → AllByRecursion Busy js
 busy_all [] h n = tt
 busy_all (j ∷ js) h n = (by (cases_eq j.remaining 0), h)
   where
@@ -216,7 +216,7 @@ in_time_one : (n : ℕ) (j : Job) (js : List Job) → first_late n (j ∷ js) �
 in_time_one n j js h (inl t) = let q = cond-true (late n j) (Some j) (first_late n js) t in let x : ◌≡◌ {A = ℕ} 0 1 = cc in absurd (omega arith)
 in_time_one n j js h (inr f) = (f, sym (cond-false (late n j) (Some j) (first_late n js) f) ∙ h)
 
-in_time : (n : ℕ) (js : List Job) → first_late n js ≡ None → All (InTime n) js
+in_time : (n : ℕ) (js : List Job) → first_late n js ≡ None → AllByRecursion (InTime n) js
 in_time n [] h = tt
 in_time n (j ∷ js) h = let q = in_time_one n j js h (cases_Bool (late n j)) in (q.0, in_time n js q.1)
 
@@ -240,12 +240,12 @@ costs p s i t e = by p.tasks i s.tasks e
 -- ---- releases
 
 record Released (es : List Event) (now : ℕ) (q : Queue) : Type 0 where
-  spent : All (Spent es) q.jobs
-  busy : All Busy q.jobs
+  spent : AllByRecursion (Spent es) q.jobs
+  busy : AllByRecursion Busy q.jobs
   few : q.next ≤ length q.jobs + now
   unused : (n : ℕ) → q.next ≤ n → ticks_worked n es ≡ 0
-  releases : All (λ j. j.release ≤ now) q.jobs
-  in_time : All (InTime now) q.jobs
+  releases : AllByRecursion (λ j. j.release ≤ now) q.jobs
+  in_time : AllByRecursion (InTime now) q.jobs
 
 release_right : (g : JobKey → JobKey → Bool) (p : Plan) → Sound p → (es : List Event) (now : ℕ) (ds : List Edge) (q : Queue) → Released es now q → Released es now (release_edges g p now ds q)
 release_right g p s es now = all_kept g p now (Released es now) (λ i t q e h.
@@ -261,14 +261,14 @@ release_right g p s es now = all_kept g p now (Released es now) (λ i t q e h.
 
 -- ---- the invariant is kept
 
-spent_still : (es : List Event) (e : Event) → ((n : ℕ) → works_in n e ≡ 0) → (js : List Job) → All (Spent es) js → All (Spent (es ++ e ∷ [])) js
+spent_still : (es : List Event) (e : Event) → ((n : ℕ) → works_in n e ≡ 0) → (js : List Job) → AllByRecursion (Spent es) js → AllByRecursion (Spent (es ++ e ∷ [])) js
 spent_still es e i js h = All-weaker (Spent es) (Spent (es ++ e ∷ [])) (λ j k. omega (arith, worked_more j.number es e, i j.number, k)) js h
 
-spent_others : (es : List Event) (e : Event) (n : ℕ) → ((m : ℕ) → (m ≡ n → ⊥) → works_in m e ≡ 0) → (js : List Job) → All (λ k. k.number ≡ n → ⊥) js → All (Spent es) js → All (Spent (es ++ e ∷ [])) js
+spent_others : (es : List Event) (e : Event) (n : ℕ) → ((m : ℕ) → (m ≡ n → ⊥) → works_in m e ≡ 0) → (js : List Job) → AllByRecursion (λ k. k.number ≡ n → ⊥) js → AllByRecursion (Spent es) js → AllByRecursion (Spent (es ++ e ∷ [])) js
 spent_others es e n i [] a h = tt
 spent_others es e n i (j ∷ js) a h = (omega (arith, worked_more j.number es e, i j.number a.0, h.0), spent_others es e n i js a.1 h.1)
 
-spent_served : (es : List Event) (js : List Job) → NumbersApart js → All Busy js → All (Spent es) js → All (Spent (es ++ Passed (worker js) ∷ [])) (serve_first js)
+spent_served : (es : List Event) (js : List Job) → NumbersApart js → AllByRecursion Busy js → AllByRecursion (Spent es) js → AllByRecursion (Spent (es ++ Passed (worker js) ∷ [])) (serve_first js)
 spent_served es [] a b h = tt
 spent_served es (j ∷ js) a b h = (
   omega (arith, worked_more j.number es (Passed (worker (j ∷ js))), ap count_if (eq-eqb j.number j.number refl), h.0, b.0),
@@ -308,7 +308,7 @@ module _ (g : JobKey → JobKey → Bool) (p : Plan) (valid : Sound p) where
     steps = omega (arith, h.steps, o.steps);
     values = subst (InRanges p.variables) (sym h.values) o.values;
     time = omega (arith, h.now, o.time);
-    spent = subst (All (Spent (es ++ e ∷ []))) (sym h.waiting) (spent_still es e h.idle s.waiting o.spent);
+    spent = subst (AllByRecursion (Spent (es ++ e ∷ []))) (sym h.waiting) (spent_still es e h.idle s.waiting o.spent);
     by_phase = subst (λ (js : List Job). ByPhase t.phase t.now t.next js) (sym h.waiting)
         (subst (λ (n : ℕ). ByPhase t.phase t.now n s.waiting) (sym h.next)
         (subst (λ (n : ℕ). ByPhase t.phase n s.next s.waiting) (sym h.now)
@@ -317,7 +317,7 @@ module _ (g : JobKey → JobKey → Bool) (p : Plan) (valid : Sound p) where
     clocks = ap length h.zeroed ∙ o.clocks;
     triggers = h.triggers ∙ o.triggers;
     zeroed = λ k. omega (arith, ap (λ zs. get_or zs k 0) h.zeroed, h.now, o.zeroed k);
-    releases = subst (All (λ j. j.release ≤ t.now)) (sym h.waiting) (subst (λ (n : ℕ). All (λ j. j.release ≤ n) s.waiting) (sym h.now) o.releases);
+    releases = subst (AllByRecursion (λ j. j.release ≤ t.now)) (sym h.waiting) (subst (λ (n : ℕ). AllByRecursion (λ j. j.release ≤ n) s.waiting) (sym h.now) o.releases);
     closed = λ q. let b : s.phase ≡ Pass = sym h.phase ∙ q in subst NonePresent (sym (h.closed b)) (o.closed b);
   }
   kept es e s t o c (inr (inl (q, l, h))) =
@@ -369,10 +369,10 @@ module _ (g : JobKey → JobKey → Bool) (p : Plan) (valid : Sound p) where
   kept es e s t o c (inr (inr (inr (inl (k, i, n, l, h))))) =
       let d = h.done in
       let b = in_phase_of Finish es s d.in_finish o in
-      let w : All (Spent es) (d.job ∷ d.rest) = subst (All (Spent es)) d.waits o.spent in
-      let rl : All (λ j. j.release ≤ s.now) (d.job ∷ d.rest) = subst (All (λ j. j.release ≤ s.now)) d.waits o.releases in
+      let w : AllByRecursion (Spent es) (d.job ∷ d.rest) = subst (AllByRecursion (Spent es)) d.waits o.spent in
+      let rl : AllByRecursion (λ j. j.release ≤ s.now) (d.job ∷ d.rest) = subst (AllByRecursion (λ j. j.release ≤ s.now)) d.waits o.releases in
       let busy : BusyRest (d.job ∷ d.rest) = subst BusyRest d.waits b.0 in
-      let tm : All (InTime s.now) (d.job ∷ d.rest) = subst (All (InTime s.now)) d.waits b.1 in
+      let tm : AllByRecursion (InTime s.now) (d.job ∷ d.rest) = subst (AllByRecursion (InTime s.now)) d.waits b.1 in
       let lg : length s.waiting ≡ length d.rest + 1 = ap length d.waits ∙ omega arith in
       let less : s.next + 1 ≤ length s.waiting + s.now = b.3 (first_over d.job d.rest s.waiting d.waits d.over) in
       let idle : (m : ℕ) → works_in m e ≡ 0 = λ m. ap (works_in m) l in
@@ -403,7 +403,7 @@ module _ (g : JobKey → JobKey → Bool) (p : Plan) (valid : Sound p) where
         steps = omega arith;
         values = o.values;
         time = omega (arith, h.before_last);
-        spent = subst (λ (x : Event). All (Spent (es ++ x ∷ [])) (serve_first s.waiting)) (sym named) (spent_served es s.waiting o.counted.numbered.apart b.0 o.spent);
+        spent = subst (λ (x : Event). AllByRecursion (Spent (es ++ x ∷ [])) (serve_first s.waiting)) (sym named) (spent_served es s.waiting o.counted.numbered.apart b.0 o.spent);
         by_phase = (busy_served s.waiting b.0, omega (arith, serve_long s.waiting, b.1), λ z. absurd (omega arith));
         places = o.places;
         clocks = o.clocks;
@@ -446,8 +446,8 @@ pub done_means_exactly_C_within_D : DoneMeansExactlyCWithinD
 done_means_exactly_C_within_D g p valid ts es s t tick task number r h =
     let o = right g p (sound_facts p valid.0) ts es s r in
     let d = h.does.done in
-    let w : All (Spent es) (d.job ∷ d.rest) = subst (All (Spent es)) d.waits o.spent in
-    let tm : All (InTime s.now) (d.job ∷ d.rest) = subst (All (InTime s.now)) d.waits (in_phase_of g p (sound_facts p valid.0) Finish es s d.in_finish o).1 in
+    let w : AllByRecursion (Spent es) (d.job ∷ d.rest) = subst (AllByRecursion (Spent es)) d.waits o.spent in
+    let tm : AllByRecursion (InTime s.now) (d.job ∷ d.rest) = subst (AllByRecursion (InTime s.now)) d.waits (in_phase_of g p (sound_facts p valid.0) Finish es s d.in_finish o).1 in
     record {
       job = d.job;
       rest = d.rest;
@@ -466,7 +466,7 @@ count_of Edges now next js h = h.1
 count_of Close now next js h = h.1
 count_of Pass now next js h = h.1
 
-times_of : (q : Phase) (now next : ℕ) (js : List Job) → (q ≡ Late → ⊥) → ByPhase q now next js → All (InTime now) js
+times_of : (q : Phase) (now next : ℕ) (js : List Job) → (q ≡ Late → ⊥) → ByPhase q now next js → AllByRecursion (InTime now) js
 times_of Late now next js n h = absurd (n refl)
 times_of Finish now next js n h = h.1
 times_of Arrival now next js n h = h.2

@@ -1,6 +1,6 @@
 -- A job goes on where it was.
 use Rattle.std.proofs.Common.{◌≡◌, ℕ, zero, suc, ◌+◌, ◌<◌, ◌≤◌, Bool, true, false, cond, ◌⊎◌, List, [], ◌∷◌, ◌++◌, length, get_or, Some, None, Option, sym, refl, ap, ◌∙◌, subst, inl, inr, arith}
-use Rattle.std.specs.List.{ContainsAt as Has, HoldsAt, AllByRecursion as All}
+use Rattle.std.specs.List.{ContainsAt as Has, HoldsAt, AllByRecursion}
 use Rattle.std.proofs.ByRecursion.{All-weaker, all_has_itself}
 use Rattle.std.proofs.lemmas.Bool.{cond_both}
 use Rattle.precedence.specs.Sorted.{put}
@@ -37,24 +37,24 @@ has_put g x y [] h = absurd (omega (arith, h.1))
 has_put g x y (z ∷ zs) (zero, l, e) = cond_both (g x z) _ _ (λ l. Has l y) (λ _. has_behind x y (z ∷ zs) (zero, l, e)) (λ _. (zero, omega arith, e))
 has_put g x y (z ∷ zs) (suc k, l, e) = cond_both (g x z) _ _ (λ l. Has l y) (λ _. has_behind x y (z ∷ zs) (suc k, l, e)) (λ _. has_behind z y (put g x zs) (has_put g x y zs (k, omega arith, e)))
 
-has_all : {X : Type 0} (xs : List X) → All (Has xs) xs
+has_all : {X : Type 0} (xs : List X) → AllByRecursion (Has xs) xs
 has_all xs = all_has_itself xs
 
-has_tail : {X : Type 0} (x : X) (xs : List X) → All (Has (x ∷ xs)) xs
+has_tail : {X : Type 0} (x : X) (xs : List X) → AllByRecursion (Has (x ∷ xs)) xs
 has_tail x xs = All-weaker (Has xs) (Has (x ∷ xs)) (λ y h. has_behind x y xs h) xs (has_all xs)
 
 -- ---- by the kind of event
 
 same_jobs : (e : Event) (s t : State) → t.waiting ≡ s.waiting → GoesOn e s t
 same_jobs e s t w = record {
-  from = subst (All (Origin e s)) (sym w) (All-weaker (Has s.waiting) (Origin e s) (λ j h. inl h) s.waiting (has_all s.waiting));
+  from = subst (AllByRecursion (Origin e s)) (sym w) (All-weaker (Has s.waiting) (Origin e s) (λ j h. inl h) s.waiting (has_all s.waiting));
   to = All-weaker (Has s.waiting) (Fate e t) (λ j h. inl (subst (λ l. Has l j) (sym w) h)) s.waiting (has_all s.waiting);
 }
 
 record Grows (e : Event) (s : State) (q : Queue) : Type 0 where
   up : s.next ≤ q.next
-  from : All (Origin e s) q.jobs
-  to : All (Has q.jobs) s.waiting
+  from : AllByRecursion (Origin e s) q.jobs
+  to : AllByRecursion (Has q.jobs) s.waiting
 
 taken_grows : (g : JobKey → JobKey → Bool) (e : Event) (s : State) (n : ℕ) (q : Option ℕ) → e ≡ Made (line.Edge s.now n q) → (ds : List Edge) (u : Queue) → Grows e s u → Grows e s (release_edges g s.plan s.now ds u)
 taken_grows g e s n q l = all_kept g s.plan s.now (Grows e s) (λ i t u f h.
@@ -71,21 +71,21 @@ take_goes g k n q e s t l h =
     let r : Grows e s (released g ds s) = taken_grows g e s n q (l ∙ ap (λ i. Made (line.Edge i n q)) h.tries.this_tick) ds (record { next = s.next; jobs = s.waiting })
     (record { up = omega arith; from = All-weaker (Has s.waiting) (Origin e s) (λ j m. inl m) s.waiting (has_all s.waiting); to = has_all s.waiting }) in
     record {
-      from = subst (λ (u : State). All (Origin e s) u.waiting) (sym h.after) r.from;
+      from = subst (λ (u : State). AllByRecursion (Origin e s) u.waiting) (sym h.after) r.from;
       to = All-weaker (Has (released g ds s).jobs) (Fate e t) (λ j m. inl (subst (λ (u : State). Has u.waiting j) (sym h.after) m)) s.waiting r.to;
     }
 
 done_goes : (e : Event) (s t : State) (j : Job) (js : List Job) (k i : ℕ) → s.waiting ≡ j ∷ js → t.waiting ≡ js → e ≡ Made (line.Done k i j.number) → GoesOn e s t
 done_goes e s t j js k i w v l = record {
-  from = subst (All (Origin e s)) (sym v) (All-weaker (Has (j ∷ js)) (Origin e s) (λ x h. inl (subst (λ (ws : List Job). Has ws x) (sym w) h)) js (has_tail j js));
-  to = subst (All (Fate e t)) (sym w) (inr (inr (k, i, l)), All-weaker (Has js) (Fate e t) (λ x h. inl (subst (λ (ws : List Job). Has ws x) (sym v) h)) js (has_all js));
+  from = subst (AllByRecursion (Origin e s)) (sym v) (All-weaker (Has (j ∷ js)) (Origin e s) (λ x h. inl (subst (λ (ws : List Job). Has ws x) (sym w) h)) js (has_tail j js));
+  to = subst (AllByRecursion (Fate e t)) (sym w) (inr (inr (k, i, l)), All-weaker (Has js) (Fate e t) (λ x h. inl (subst (λ (ws : List Job). Has ws x) (sym v) h)) js (has_all js));
 }
 
 pass_goes : (e : Event) (s t : State) (js : List Job) → s.waiting ≡ js → t.waiting ≡ serve_first js → e ≡ Passed (worker js) → GoesOn e s t
 pass_goes e s t [] w v l = same_jobs e s t (v ∙ sym w)
 pass_goes e s t (j ∷ js) w v l = record {
-  from = subst (All (Origin e s)) (sym v) (inr (inl (j, subst (λ (ws : List Job). Has ws j) (sym w) (has_first j js), _, l, refl, refl, record { number = refl; task = refl; cost = refl; deadline = refl; priority = refl; release = refl })), All-weaker (Has (j ∷ js)) (Origin e s) (λ x h. inl (subst (λ (ws : List Job). Has ws x) (sym w) h)) js (has_tail j js));
-  to = subst (All (Fate e t)) (sym w) (inr (inl (subst (λ (ws : List Job). Has ws (worked j)) (sym v) (has_first (worked j) js))), All-weaker (Has (worked j ∷ js)) (Fate e t) (λ x h. inl (subst (λ (ws : List Job). Has ws x) (sym v) h)) js (has_tail (worked j) js));
+  from = subst (AllByRecursion (Origin e s)) (sym v) (inr (inl (j, subst (λ (ws : List Job). Has ws j) (sym w) (has_first j js), _, l, refl, refl, record { number = refl; task = refl; cost = refl; deadline = refl; priority = refl; release = refl })), All-weaker (Has (j ∷ js)) (Origin e s) (λ x h. inl (subst (λ (ws : List Job). Has ws x) (sym w) h)) js (has_tail j js));
+  to = subst (AllByRecursion (Fate e t)) (sym w) (inr (inl (subst (λ (ws : List Job). Has ws (worked j)) (sym v) (has_first (worked j) js))), All-weaker (Has (worked j ∷ js)) (Fate e t) (λ x h. inl (subst (λ (ws : List Job). Has ws x) (sym v) h)) js (has_tail (worked j) js));
 }
 
 goes : (g : JobKey → JobKey → Bool) (e : Event) (s t : State) → Kind g e s t → GoesOn e s t

@@ -1,6 +1,6 @@
 -- Job numbers: given in turn, never twice, and worked only while they wait.
 use Rattle.std.proofs.Common.{◌≡◌, ℕ, ◌+◌, ◌<◌, ◌≤◌, Bool, true, false, eqb, ◌⊎◌, List, [], ◌∷◌, ◌++◌, Some, None, Option, sym, refl, ap, ◌∙◌, subst, inl, inr, arith}
-use Rattle.std.specs.List.{AllByRecursion as All}
+use Rattle.std.specs.List.{AllByRecursion}
 use Rattle.std.proofs.ByRecursion.{All-weaker}
 use Rattle.std.proofs.lemmas.Bool.{ne_eqb}
 use Rattle.jobs.specs.declared.job.Job.{Job}
@@ -34,14 +34,14 @@ queue s = record { next = s.next; jobs = s.waiting }
 -- numbers differ, and are below the next one
 pub record Numbered (q : Queue) : Type 0 where
   pub apart : NumbersApart q.jobs
-  pub given : All (Below q.next) q.jobs
+  pub given : AllByRecursion (Below q.next) q.jobs
 
 pub record Counted (es : List Event) (s : State) : Type 0 where
   pub numbered : Numbered (queue s)
   -- a number that is not given yet has not worked
   pub unused : (n : ℕ) → s.next ≤ n → ticks_worked n es ≡ 0
 
-new_number : (n : ℕ) (j : Job) (js : List Job) → j.number ≡ n → All (Below n) js → NewNumber j js
+new_number : (n : ℕ) (j : Job) (js : List Job) → j.number ≡ n → AllByRecursion (Below n) js → NewNumber j js
 new_number n j js e h = All-weaker (Below n) (λ k. k.number ≡ j.number → ⊥) (λ k l f. omega arith) js h
 
 pub numbered_released : (g : JobKey → JobKey → Bool) (p : Plan) (tick : ℕ) (ds : List Edge) (q : Queue) → Numbered q → Numbered (release_edges g p tick ds q)
@@ -60,7 +60,7 @@ numbered_served n [] h = h
 numbered_served n (j ∷ js) h = record { apart = h.apart; given = h.given }
 
 -- a job that works is one of those that wait
-named_below : (n m : ℕ) (js : List Job) → All (Below n) js → n ≤ m → count_if (names (worker js) m) ≡ 0
+named_below : (n m : ℕ) (js : List Job) → AllByRecursion (Below n) js → n ≤ m → count_if (names (worker js) m) ≡ 0
 named_below n m [] h l = refl
 named_below n m (j ∷ js) h l = ap count_if (ne_eqb j.number m (λ e. omega (arith, h.0)))
 
@@ -108,28 +108,28 @@ module _ (g : JobKey → JobKey → Bool) where
 
   pub record Gone (n : ℕ) (s : State) : Type 0 where
     pub was_given : n < s.next
-    pub absent : All (λ j. j.number ≡ n → ⊥) s.waiting
+    pub absent : AllByRecursion (λ j. j.number ≡ n → ⊥) s.waiting
 
-  gone_served : (n : ℕ) (js : List Job) → All (λ j. j.number ≡ n → ⊥) js → All (λ j. j.number ≡ n → ⊥) (serve_first js)
+  gone_served : (n : ℕ) (js : List Job) → AllByRecursion (λ j. j.number ≡ n → ⊥) js → AllByRecursion (λ j. j.number ≡ n → ⊥) (serve_first js)
   gone_served n [] h = h
   gone_served n (j ∷ js) h = h
 
-  gone_released : (n : ℕ) (p : Plan) (tick : ℕ) (ds : List Edge) (q : Queue) → (n < q.next) × All (λ j. j.number ≡ n → ⊥) q.jobs → (n < (release_edges g p tick ds q).next) × All (λ j. j.number ≡ n → ⊥) (release_edges g p tick ds q).jobs
-  gone_released n p tick = all_kept g p tick (λ q. (n < q.next) × All (λ j. j.number ≡ n → ⊥) q.jobs) (λ i t q e h.
+  gone_released : (n : ℕ) (p : Plan) (tick : ℕ) (ds : List Edge) (q : Queue) → (n < q.next) × AllByRecursion (λ j. j.number ≡ n → ⊥) q.jobs → (n < (release_edges g p tick ds q).next) × AllByRecursion (λ j. j.number ≡ n → ⊥) (release_edges g p tick ds q).jobs
+  gone_released n p tick = all_kept g p tick (λ q. (n < q.next) × AllByRecursion (λ j. j.number ≡ n → ⊥) q.jobs) (λ i t q e h.
       (omega (arith, h.0), all_put (job_before g) (λ j. j.number ≡ n → ⊥) _ q.jobs (λ f. omega (arith, h.0)) h.1))
 
-  unnamed : (n : ℕ) (js : List Job) → All (λ j. j.number ≡ n → ⊥) js → count_if (names (worker js) n) ≡ 0
+  unnamed : (n : ℕ) (js : List Job) → AllByRecursion (λ j. j.number ≡ n → ⊥) js → count_if (names (worker js) n) ≡ 0
   unnamed n [] h = refl
   unnamed n (j ∷ js) h = ap count_if (ne_eqb j.number n h.0)
 
   gone_kept : (n : ℕ) (e : Event) (s t : State) → Gone n s → Kind g e s t → Gone n t × (works_in n e ≡ 0)
-  gone_kept n e s t o (inl h) = (record { was_given = omega (arith, h.next, o.was_given); absent = subst (All (λ j. j.number ≡ n → ⊥)) (sym h.waiting) o.absent }, h.idle n)
+  gone_kept n e s t o (inl h) = (record { was_given = omega (arith, h.next, o.was_given); absent = subst (AllByRecursion (λ j. j.number ≡ n → ⊥)) (sym h.waiting) o.absent }, h.idle n)
   gone_kept n e s t o (inr (inl (p, q, h))) = (subst (Gone n) (sym h.after) (record { was_given = o.was_given; absent = o.absent }), ap (works_in n) q)
   gone_kept n e s t o (inr (inr (inl (k, m, q, l, h)))) =
       let r = gone_released n s.plan s.now (sides h.tries.edge h.tries.mate) (queue s) (o.was_given, o.absent) in
       (subst (Gone n) (sym h.after) (record { was_given = r.0; absent = r.1 }), ap (works_in n) l)
   gone_kept n e s t o (inr (inr (inr (inl (k, i, m, l, h))))) =
-      (subst (Gone n) (sym h.after) (record { was_given = o.was_given; absent = (subst (All (λ j. j.number ≡ n → ⊥)) h.done.waits o.absent).1 }), ap (works_in n) l)
+      (subst (Gone n) (sym h.after) (record { was_given = o.was_given; absent = (subst (AllByRecursion (λ j. j.number ≡ n → ⊥)) h.done.waits o.absent).1 }), ap (works_in n) l)
   gone_kept n e s t o (inr (inr (inr (inr (w, l, h))))) = (
     subst (Gone n) (sym h.after) (record { was_given = o.was_given; absent = gone_served n s.waiting o.absent }),
     ap (works_in n) l ∙ (ap (λ v. count_if (names v n)) h.works ∙ unnamed n s.waiting o.absent),

@@ -1,6 +1,6 @@
 -- What releases keep.
 use Rattle.std.proofs.Common.{◌≡◌, ℕ, ◌+◌, Bool, true, false, cond, List, [], ◌∷◌, Some, None, Option, refl}
-use Rattle.std.specs.List.{slice_get, AllByRecursion as All}
+use Rattle.std.specs.List.{slice_get, AllByRecursion}
 use Rattle.std.proofs.lemmas.Bool.{cond_both}
 use Rattle.precedence.specs.Sorted.{put}
 use Rattle.jobs.specs.declared.job.Job.{Job}
@@ -11,9 +11,9 @@ use Rattle.parts.specs.declared.part.Edge.{Edge}
 use Rattle.sequence.specs.Plan.{Plan}
 use Rattle.runs.specs.Jobs.{Queue, task_in, release_task, release_number, release_edges}
 
-pub all_put : {X : Type 0} (g : X → X → Bool) (P : X → Type 0) (x : X) (ys : List X) → P x → All P ys → All P (put g x ys)
+pub all_put : {X : Type 0} (g : X → X → Bool) (P : X → Type 0) (x : X) (ys : List X) → P x → AllByRecursion P ys → AllByRecursion P (put g x ys)
 all_put g P x [] h a = (h, tt)
-all_put g P x (y ∷ ys) h a = cond_both (g x y) _ _ (All P) (λ _. (h, a)) (λ _. (a.0, all_put g P x ys h a.1))
+all_put g P x (y ∷ ys) h a = cond_both (g x y) _ _ (AllByRecursion P) (λ _. (h, a)) (λ _. (a.0, all_put g P x ys h a.1))
 
 -- what one release keeps, all keep
 module _ (g : JobKey → JobKey → Bool) (p : Plan) (tick : ℕ) (P : Queue → Type 0) (more : (i : ℕ) (t : Task) (q : Queue) → slice_get p.tasks i ≡ Some t → P q → P (release_task g tick i (Some t) q)) where

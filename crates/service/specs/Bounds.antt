@@ -1,6 +1,6 @@
 -- Nothing leaves its bounds.
 use Rattle.std.specs.Prelude.{◌≡◌, ℕ, ◌+◌, ◌<◌, ◌≤◌, Bool, true, List, [], ◌∷◌, length, ℤ, pos, ◌≢◌, slice_index, slice_index_or}
-use Rattle.std.specs.List.{AllByRecursion as All}
+use Rattle.std.specs.List.{AllByRecursion}
 use Rattle.jobs.specs.declared.job.Job.{Job}
 use Rattle.jobs.specs.declared.job.JobKey.{JobKey}
 use Rattle.ready_queue.specs.Waiting.{NumbersApart}
@@ -28,7 +28,7 @@ pub record Bounded (p : Plan) (s : State) : Type 0 where
   pub values : InRanges p.variables s.values
   pub time : s.now ≤ 1000000000
   pub apart : NumbersApart s.waiting
-  pub given : All (λ j. j.number < s.next) s.waiting
+  pub given : AllByRecursion (λ j. j.number < s.next) s.waiting
   -- job numbers fit 32 bits
   pub numbers : s.next ≤ s.now + 32
   pub places : length s.places ≡ p.counts.automata
@@ -36,9 +36,9 @@ pub record Bounded (p : Plan) (s : State) : Type 0 where
   pub triggers : length s.present ≡ p.counts.triggers
   -- no clock was zeroed later than now, no job released later
   pub zeroed : (c : ℕ) → slice_index s.zeroed c ≤ s.now
-  pub releases : All (λ j. j.release ≤ s.now) s.waiting
+  pub releases : AllByRecursion (λ j. j.release ≤ s.now) s.waiting
   -- once the late ones were looked for, no job waits past its deadline
-  pub in_time : (s.phase ≢ Late) → All (λ j. s.now ≤ j.release + j.deadline) s.waiting
+  pub in_time : (s.phase ≢ Late) → AllByRecursion (λ j. s.now ≤ j.release + j.deadline) s.waiting
   -- in a closed tick nothing is present
   pub closed : s.phase ≡ Pass → NonePresent s.present
 

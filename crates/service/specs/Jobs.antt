@@ -1,6 +1,6 @@
 -- What becomes of a job from event to event: it goes on where it was.
 use Rattle.std.specs.Prelude.{◌≡◌, ℕ, ◌<◌, ◌≤◌, Bool, false, ◌⊎◌, List, Some, None, Option}
-use Rattle.std.specs.List.{ContainsAt as Has, AllByRecursion as All, slice_get}
+use Rattle.std.specs.List.{ContainsAt as Has, AllByRecursion, slice_get}
 use Rattle.jobs.specs.declared.job.Job.{Job}
 use Rattle.jobs.specs.declared.job.JobKey.{JobKey}
 use Rattle.jobs.specs.Jobs.{worked}
@@ -53,8 +53,8 @@ abbrev pub Fate : Event → State → Job → Type 0
 Fate e t j = Has t.waiting j ⊎ (Has t.waiting (worked j) ⊎ ((tick : ℕ) × (task : ℕ) × (e ≡ Made (line.Done tick task j.number))))
 
 pub record GoesOn (e : Event) (s t : State) : Type 0 where
-  pub from : All (Origin e s) t.waiting
-  pub to : All (Fate e t) s.waiting
+  pub from : AllByRecursion (Origin e s) t.waiting
+  pub to : AllByRecursion (Fate e t) s.waiting
 
 -- a preempted job keeps what remains to it; C, D, P and the release tick of a job never change
 abbrev pub JobsGoOn : Type 0

@@ -1,6 +1,6 @@
 -- Who works in a tick, and how often a job has worked.
 use Rattle.std.specs.Prelude.{◌≡◌, ℕ, ◌+◌, ◌≤◌, Bool, true, false, List, [], ◌∷◌, ◌++◌, Some, None, Option, ◌==◌}
-use Rattle.std.specs.List.{AllByRecursion as All}
+use Rattle.std.specs.List.{AllByRecursion}
 use Rattle.precedence.specs.Laws.{WeakOrder}
 use Rattle.precedence.specs.Sorted.{InOrder}
 use Rattle.jobs.specs.declared.job.Job.{Job}
@@ -27,7 +27,7 @@ pub record Serves (g : JobKey → JobKey → Bool) (w : Worker) (before after : 
   pub number : w.job ≡ job.number
   pub task : w.task ≡ job.task
   pub waits : before ≡ front ++ (job ∷ back)
-  pub foremost : All (λ k. job_before g k job ≡ false) before
+  pub foremost : AllByRecursion (λ k. job_before g k job ≡ false) before
   pub works : after ≡ front ++ (worked job ∷ back)
 
 -- nobody works only where nobody waits

@@ -1,5 +1,6 @@
 // Examples of the sources: tables, trays and pairs.
 #![tactic(auto)]
+
 use sources::table::Table;
 use sources::tray::Tray;
 use sources::trigger::{PutFault, TableFault, Trigger};

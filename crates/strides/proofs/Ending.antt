@@ -1,6 +1,6 @@
 -- The end of the longest stride, from the reaches of all obstacles.
 use Rattle.std.proofs.Common.{◌≡◌, ℕ, zero, suc, ◌+◌, ◌-◌, ◌<◌, ◌≤◌, min, true, false, ◌⊎◌, List, [], ◌∷◌, Some, None, Option, sym, refl, ap, ◌∙◌, subst, inl, inr, arith}
-use Rattle.std.specs.List.{slice_get, AllByRecursion as All}
+use Rattle.std.specs.List.{slice_get, AllByRecursion}
 use Rattle.std.proofs.ByRecursion.{All-weaker}
 use Rattle.std.proofs.lemmas.Bool.{cases_lt}
 use Rattle.jobs.specs.declared.job.Job.{Job}
@@ -108,7 +108,7 @@ module _ (v : View) (q : ReadyQueue) (first : Option Trigger) where
   AtWork t = Outlasts (t - v.now) (waiting q)
 
   abbrev InTime : ℕ → Type 0
-  InTime t = All (λ j. late t j ≡ false) (waiting q)
+  InTime t = AllByRecursion (λ j. late t j ≡ false) (waiting q)
 
   abbrev Stays : ℕ → Type 0
   Stays t = (a : ℕ) → may_stay (state_of v) t a ≡ true
@@ -145,7 +145,7 @@ module _ (v : View) (q : ReadyQueue) (first : Option Trigger) where
           clear = closed.clear;
           before_last = omega (arith, ends.within);
           busy = subst (Outlasts n) shown.jobs (subst (λ k. Outlasts k (waiting q)) count at_end.at_work);
-          in_time = subst (All (λ j. late (s.now + n) j ≡ false)) shown.jobs at_end.in_time;
+          in_time = subst (AllByRecursion (λ j. late (s.now + n) j ≡ false)) shown.jobs at_end.in_time;
           no_trigger = due_behind (s.now + n) s.coming (subst (ComesBehind (s.now + n)) shown.comes at_end.no_trigger);
           shut = λ t a b. open_shown v q first s shown t (ends.free_to t (omega (arith, shown.now)) (omega arith)).shuts;
           stays = λ t a b i. sym (stay_shown v q first s shown t i) ∙ (ends.free_to t (omega (arith, shown.now)) (omega arith)).stays i;
@@ -155,7 +155,7 @@ module _ (v : View) (q : ReadyQueue) (first : Option Trigger) where
     free_of_quiet : (n : ℕ) → Quiet n s → (t : ℕ) → s.now < t → t ≤ s.now + n → FreeTick t
     free_of_quiet n k t a b = record {
       at_work = outlasts_less (t - v.now) n (waiting q) (omega (arith, shown.now)) (subst (Outlasts n) (sym shown.jobs) k.busy);
-      in_time = subst (All (λ j. late t j ≡ false)) (sym shown.jobs) (All-weaker (λ j. late (s.now + n) j ≡ false) (λ j. late t j ≡ false) (λ j h. late_further t (s.now + n) j b h) s.waiting k.in_time);
+      in_time = subst (AllByRecursion (λ j. late t j ≡ false)) (sym shown.jobs) (All-weaker (λ j. late (s.now + n) j ≡ false) (λ j. late t j ≡ false) (λ j h. late_further t (s.now + n) j b h) s.waiting k.in_time);
       no_trigger = subst (ComesBehind t) (sym shown.comes) (behind_due t (s.now + n) s.coming b k.no_trigger);
       stays = λ i. stay_shown v q first s shown t i ∙ k.stays t a b i;
       shuts = shown_open v q first s shown t (k.shut t a b);

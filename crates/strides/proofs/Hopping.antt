@@ -1,6 +1,6 @@
 -- One quiet tick is six events; n of them by induction.
 use Rattle.std.proofs.Common.{◌≡◌, ℕ, zero, suc, ◌+◌, ◌-◌, ◌<◌, ◌≤◌, Bool, true, false, cond, eqb, ltb, List, [], ◌∷◌, ◌++◌, Some, None, Option, sym, refl, ap, ◌∙◌, subst, arith}
-use Rattle.std.specs.List.{AllByRecursion as All}
+use Rattle.std.specs.List.{AllByRecursion}
 use Rattle.std.proofs.ByRecursion.{All-weaker}
 use Rattle.std.proofs.lemmas.Bool.{cond-false, ne_eqb, le-ltb, ltb-false}
 use Rattle.jobs.specs.declared.job.Job.{Job}
@@ -30,11 +30,11 @@ hop s = record { plan = s.plan; now = s.now + 1; phase = Pass; places = s.places
 pub late_further : (m n : ℕ) (j : Job) → m ≤ n → late n j ≡ false → late m j ≡ false
 late_further m n j l h = le-ltb j.deadline (m - j.release) (omega (arith, ltb-false j.deadline (n - j.release) h))
 
-none_late : (m n : ℕ) → m ≤ n → (js : List Job) → All (λ j. late n j ≡ false) js → first_late m js ≡ None
+none_late : (m n : ℕ) → m ≤ n → (js : List Job) → AllByRecursion (λ j. late n j ≡ false) js → first_late m js ≡ None
 none_late m n l [] h = refl
 none_late m n l (j ∷ js) h = cond-false _ _ _ (late_further m n j l h.0) ∙ none_late m n l js h.1
 
-served_late : (n : ℕ) (js : List Job) → All (λ j. late n j ≡ false) js → All (λ j. late n j ≡ false) (serve_first js)
+served_late : (n : ℕ) (js : List Job) → AllByRecursion (λ j. late n j ≡ false) js → AllByRecursion (λ j. late n j ≡ false) (serve_first js)
 served_late n [] h = h
 served_late n (j ∷ js) h = h
 
@@ -109,7 +109,7 @@ module _ (g : JobKey → JobKey → Bool) where
         clear = q.clear;
         before_last = omega (arith, q.before_last);
         busy = outlasts_served n s.waiting q.busy;
-        in_time = subst (λ (m : ℕ). All (λ j. late m j ≡ false) (serve_first s.waiting)) (sym e) (served_late (s.now + suc n) s.waiting q.in_time);
+        in_time = subst (λ (m : ℕ). AllByRecursion (λ j. late m j ≡ false) (serve_first s.waiting)) (sym e) (served_late (s.now + suc n) s.waiting q.in_time);
         no_trigger = none_due_further ((s.now + 1) + n) (s.now + suc n) e s.coming q.no_trigger;
         shut = λ t a b. shut_like s t Pass (serve_first s.waiting) s.next 0 s.ended s.coming (q.shut t (omega arith) (omega arith));
         stays = λ t a b. q.stays t (omega arith) (omega arith);

@@ -1,6 +1,6 @@
 -- When edges open, alone or with a partner.
 use Rattle.std.proofs.Common.{◌≡◌, ℕ, ◌+◌, ◌<◌, ◌≤◌, min, max, Bool, true, false, not, ◌&&◌, eqb, ◌⊎◌, List, length, Some, None, sym, refl, ap, ◌∙◌, inl, inr, arith}
-use Rattle.std.specs.List.{slice_get, AllByRecursion as All}
+use Rattle.std.specs.List.{slice_get, AllByRecursion}
 use Rattle.std.proofs.ByRecursion.{All-weaker}
 use Rattle.std.proofs.lemmas.Bool.{and_parts, and_from, and_left, and_right, both_ways, cases_Bool}
 use Rattle.parts.specs.declared.part.Edge.{Edge}
@@ -60,10 +60,10 @@ module _ (v : View) (P : Edge → ℕ → Type 0) (reach : ℕ) where
   pub edge_skip : (i m end : ℕ) → end ≡ m → slice_get v.edges.now i ≡ None → ViewReaches v (FreeBelow P v.edges.now i) reach m → ViewReaches v (FreeBelow P v.edges.now (i + 1)) reach end
   edge_skip i m end is e p z l h = row_skip P v.edges.now v.now reach i m end is e (p z l h)
 
-  pub edges_all : (n r : ℕ) → length v.edges.now ≤ n → ViewReaches v (FreeBelow P v.edges.now n) reach r → ViewReaches v (λ t. All (λ d. P d t) v.edges.now) reach r
+  pub edges_all : (n r : ℕ) → length v.edges.now ≤ n → ViewReaches v (FreeBelow P v.edges.now n) reach r → ViewReaches v (λ t. AllByRecursion (λ d. P d t) v.edges.now) reach r
   edges_all n r k p z l h = row_all P v.edges.now v.now reach n r k (p z l h)
 
-all_of : {X : Type 0} (P : X → Type 0) (xs : List X) → ((x : X) → P x) → All P xs
+all_of : {X : Type 0} (P : X → Type 0) (xs : List X) → ((x : X) → P x) → AllByRecursion P xs
 all_of P xs h = all_from_nth P xs (λ k b x e. h x)
 
 never_true : (b : Bool) → (b ≡ true → ⊥) → b ≡ false
@@ -75,35 +75,35 @@ module _ (v : View) (d : Edge) (leaves : leaves_current (state_of v).plan v.plac
   abbrev guard : ℕ → Bool
   guard t = guard_holds v.zeroed.now v.values.now t d.guard
 
-  shut_unpaired : (t : ℕ) → All (λ c. pairs_at (state_of v) t d c ≡ false) v.edges.now → EdgeShut (at_tick t (state_of v)) d
+  shut_unpaired : (t : ℕ) → AllByRecursion (λ c. pairs_at (state_of v) t d c ≡ false) v.edges.now → EdgeShut (at_tick t (state_of v)) d
   shut_unpaired t f r =
       let g = (and_parts (leaves_current (state_of v).plan v.places.now d) (guard t) r).1 in
       (alone, All-weaker (λ c. pairs_at (state_of v) t d c ≡ false) (λ c. fits (at_tick t (state_of v)) d c ≡ false) (λ c e. sym (ap (λ u. u && fits (at_tick t (state_of v)) d c) g) ∙ e) v.edges.now f)
 
-  unpaired_shut : (t : ℕ) → EdgeShut (at_tick t (state_of v)) d → All (λ c. pairs_at (state_of v) t d c ≡ false) v.edges.now
+  unpaired_shut : (t : ℕ) → EdgeShut (at_tick t (state_of v)) d → AllByRecursion (λ c. pairs_at (state_of v) t d c ≡ false) v.edges.now
   unpaired_shut t f = by (cases_Bool (guard t))
     where
-      by : (guard t ≡ true) ⊎ (guard t ≡ false) → All (λ c. pairs_at (state_of v) t d c ≡ false) v.edges.now
+      by : (guard t ≡ true) ⊎ (guard t ≡ false) → AllByRecursion (λ c. pairs_at (state_of v) t d c ≡ false) v.edges.now
       by (inl g) = All-weaker (λ c. fits (at_tick t (state_of v)) d c ≡ false) (λ c. pairs_at (state_of v) t d c ≡ false) (λ c e. and_right (guard t) (fits (at_tick t (state_of v)) d c) e) v.edges.now (f (and_from _ _ leaves g)).1
       by (inr g) = all_of (λ c. pairs_at (state_of v) t d c ≡ false) v.edges.now (λ c. and_left (guard t) (fits (at_tick t (state_of v)) d c) g)
 
-  pub waits_for_a_partner : (reach r : ℕ) → ViewReaches v (λ t. All (λ c. pairs_at (state_of v) t d c ≡ false) v.edges.now) reach r → ViewReaches v (λ t. EdgeShut (at_tick t (state_of v)) d) reach r
-  waits_for_a_partner reach r p z l m = reaches_same v.now (λ t. All (λ c. pairs_at (state_of v) t d c ≡ false) v.edges.now) (λ t. EdgeShut (at_tick t (state_of v)) d) reach r (λ t a b. shut_unpaired t) (λ t a b. unpaired_shut t) (p z l m)
+  pub waits_for_a_partner : (reach r : ℕ) → ViewReaches v (λ t. AllByRecursion (λ c. pairs_at (state_of v) t d c ≡ false) v.edges.now) reach r → ViewReaches v (λ t. EdgeShut (at_tick t (state_of v)) d) reach r
+  waits_for_a_partner reach r p z l m = reaches_same v.now (λ t. AllByRecursion (λ c. pairs_at (state_of v) t d c ≡ false) v.edges.now) (λ t. EdgeShut (at_tick t (state_of v)) d) reach r (λ t a b. shut_unpaired t) (λ t a b. unpaired_shut t) (p z l m)
 
 -- no edge is open where each is shut
 module _ (s : State) where
-  none_open : All (EdgeShut s) s.plan.edges → NoneOpen s
+  none_open : AllByRecursion (EdgeShut s) s.plan.edges → NoneOpen s
   none_open f k None d None o = both_ways (goes_alone s.present d.label) (nth_from_all (EdgeShut s) s.plan.edges f k d o.found o.is_ready).0 o.joins
   none_open f k None d (Some c) o = o.joins
   none_open f k (Some p) d None o = o.joins
   none_open f k (Some p) d (Some c) o =
       both_ways (fits s d c) (nth_from_all (λ x. fits s d x ≡ false) s.plan.edges (nth_from_all (EdgeShut s) s.plan.edges f k d o.found o.is_ready).1 p c o.joins.0) o.joins.1
 
-  all_shut : NoneOpen s → All (EdgeShut s) s.plan.edges
+  all_shut : NoneOpen s → AllByRecursion (EdgeShut s) s.plan.edges
   all_shut n = all_from_nth (EdgeShut s) s.plan.edges (λ k b d e r. (
     never_true (goes_alone s.present d.label) (λ h. n k None d None (record { found = e; is_ready = r; joins = h })),
     all_from_nth (λ c. fits s d c ≡ false) s.plan.edges (λ p q c f. never_true (fits s d c) (λ h. n k (Some p) d (Some c) (record { found = e; is_ready = r; joins = (f, h) }))),
   ))
 
-pub none_opens : (v : View) (reach r : ℕ) → ViewReaches v (λ t. All (λ d. EdgeShut (at_tick t (state_of v)) d) v.edges.now) reach r → ViewReaches v (λ t. NoneOpen (at_tick t (state_of v))) reach r
-none_opens v reach r p z l m = reaches_same v.now (λ t. All (λ d. EdgeShut (at_tick t (state_of v)) d) v.edges.now) (λ t. NoneOpen (at_tick t (state_of v))) reach r (λ t a b. none_open (at_tick t (state_of v))) (λ t a b. all_shut (at_tick t (state_of v))) (p z l m)
+pub none_opens : (v : View) (reach r : ℕ) → ViewReaches v (λ t. AllByRecursion (λ d. EdgeShut (at_tick t (state_of v)) d) v.edges.now) reach r → ViewReaches v (λ t. NoneOpen (at_tick t (state_of v))) reach r
+none_opens v reach r p z l m = reaches_same v.now (λ t. AllByRecursion (λ d. EdgeShut (at_tick t (state_of v)) d) v.edges.now) (λ t. NoneOpen (at_tick t (state_of v))) reach r (λ t a b. none_open (at_tick t (state_of v))) (λ t a b. all_shut (at_tick t (state_of v))) (p z l m)

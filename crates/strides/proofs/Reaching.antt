@@ -1,6 +1,6 @@
 -- Obstacles one behind the other: each lowers the reach that the one before has left.
 use Rattle.std.proofs.Common.{◌≡◌, ℕ, zero, suc, ◌+◌, ◌<◌, ◌≤◌, ◌⊎◌, List, [], ◌∷◌, length, Some, None, sym, refl, subst, inl, inr, arith}
-use Rattle.std.specs.List.{slice_get, AllByRecursion as All}
+use Rattle.std.specs.List.{slice_get, AllByRecursion}
 use Rattle.std.proofs.lemmas.Bool.{cases_lt}
 use Rattle.runs.proofs.Searching.{below_more}
 use Rattle.strides.specs.Reach.{Reaches}
@@ -41,11 +41,11 @@ module _ (from : ℕ) where
       (reaches_both (λ t. (k : ℕ) → k < i → P k t) (P i) reach m r p q)
 
 -- all of a list, by place
-pub all_from_nth : {X : Type 0} (P : X → Type 0) (xs : List X) → ((k : ℕ) → k < length xs → (x : X) → slice_get xs k ≡ Some x → P x) → All P xs
+pub all_from_nth : {X : Type 0} (P : X → Type 0) (xs : List X) → ((k : ℕ) → k < length xs → (x : X) → slice_get xs k ≡ Some x → P x) → AllByRecursion P xs
 all_from_nth P [] h = tt
 all_from_nth P (x ∷ xs) h = (h 0 (omega arith) x refl, all_from_nth P xs (λ k l y e. h (suc k) (omega arith) y e))
 
-pub nth_from_all : {X : Type 0} (P : X → Type 0) (xs : List X) → All P xs → (k : ℕ) (x : X) → slice_get xs k ≡ Some x → P x
+pub nth_from_all : {X : Type 0} (P : X → Type 0) (xs : List X) → AllByRecursion P xs → (k : ℕ) (x : X) → slice_get xs k ≡ Some x → P x
 nth_from_all P [] h k x e = let z : ◌≡◌ {A = ℕ} 0 1 = cc in absurd (omega arith)
 nth_from_all P (y ∷ ys) h zero x e = let q : y ≡ x = cc in subst P q h.0
 nth_from_all P (y ∷ ys) h (suc k) x e = nth_from_all P ys h.1 k x e
@@ -74,8 +74,8 @@ module _ {X : Type 0} (P : X → ℕ → Type 0) (xs : List X) where
         (reaches_more from (λ k t. (y : X) → slice_get xs k ≡ Some y → P y t) i reach m m p
         (reaches_all from (λ t. (y : X) → slice_get xs i ≡ Some y → P y t) m p.ahead (λ t l h y g. let a = e in let z : ◌≡◌ {A = ℕ} 0 1 = cc in absurd (omega arith))))
 
-    pub row_all : (n r : ℕ) → length xs ≤ n → Reaches (FreeBelow n) from reach r → Reaches (λ t. All (λ x. P x t) xs) from reach r
+    pub row_all : (n r : ℕ) → length xs ≤ n → Reaches (FreeBelow n) from reach r → Reaches (λ t. AllByRecursion (λ x. P x t) xs) from reach r
     row_all n r h p =
-        reaches_same from (FreeBelow n) (λ t. All (λ x. P x t) xs) reach r
+        reaches_same from (FreeBelow n) (λ t. AllByRecursion (λ x. P x t) xs) reach r
         (λ t l m f. all_from_nth (λ x. P x t) xs (λ k b. f k (omega arith)))
         (λ t l m f k b. nth_from_all (λ x. P x t) xs f k) p

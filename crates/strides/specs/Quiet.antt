@@ -1,6 +1,6 @@
 -- Quiet ticks: nothing but time, work and phases changes, and no line is made. They pass together.
 use Rattle.std.specs.Prelude.{◌≡◌, ℕ, zero, suc, ◌+◌, ◌-◌, ◌<◌, ◌≤◌, Bool, true, false, List, [], ◌∷◌}
-use Rattle.std.specs.List.{AllByRecursion as All}
+use Rattle.std.specs.List.{AllByRecursion}
 use Rattle.jobs.specs.declared.job.Job.{Job}
 use Rattle.jobs.specs.declared.job.JobKey.{JobKey}
 use Rattle.jobs.specs.Jobs.{late}
@@ -35,7 +35,7 @@ pub record Quiet (n : ℕ) (s : State) : Type 0 where
   pub before_last : s.now + n ≤ last_tick
   -- no job comes to its end, and none becomes late
   pub busy : Outlasts n s.waiting
-  pub in_time : All (λ j. late (s.now + n) j ≡ false) s.waiting
+  pub in_time : AllByRecursion (λ j. late (s.now + n) j ≡ false) s.waiting
   pub no_trigger : NoneDueBy (s.now + n) s.coming
   -- no edge opens, and no invariant fails
   pub shut : (t : ℕ) → s.now < t → t ≤ s.now + n → NoneOpen (at_tick t s)

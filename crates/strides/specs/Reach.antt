@@ -1,6 +1,6 @@
 -- How far a stride goes: up to the last tick in front of an obstacle.
 use Rattle.std.specs.Prelude.{◌≡◌, ℕ, ◌+◌, ◌<◌, ◌≤◌, Bool, true, false, not, ◌&&◌, Some, None, Option, ◌==◌}
-use Rattle.std.specs.List.{AllByRecursion as All}
+use Rattle.std.specs.List.{AllByRecursion}
 use Rattle.sources.specs.declared.trigger.Trigger.{Trigger}
 use Rattle.parts.specs.declared.part.Edge.{Edge}
 use Rattle.parts.specs.Limits.{last_tick}
@@ -29,7 +29,7 @@ ComesBehind t (Some x) = t < x.tick
 
 -- an edge that is ready can be taken neither alone nor with a partner
 abbrev pub EdgeShut : State → Edge → Type 0
-EdgeShut s d = ready s d ≡ true → (goes_alone s.present d.label ≡ false) × All (λ c. fits s d c ≡ false) s.plan.edges
+EdgeShut s d = ready s d ≡ true → (goes_alone s.present d.label ≡ false) × AllByRecursion (λ c. fits s d c ≡ false) s.plan.edges
 
 -- an edge of another automaton that leaves its current location and has the opposite label
 abbrev pub could_join : State → Edge → Edge → Bool

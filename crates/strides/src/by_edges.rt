@@ -1,7 +1,7 @@
 // Edges as obstacles of a stride: each function answers the last tick in front of its obstacle, at most `reach`.
 // It is right up to the last tick, where no clock is zeroed later than now.
 ghost use Rattle.std.specs.Prelude.{◌≡◌, ◌≤◌, false};
-ghost use Rattle.std.specs.List.{AllByRecursion as All};
+ghost use Rattle.std.specs.List.{AllByRecursion};
 ghost use Rattle.runs.specs.Guards.{guard_holds};
 ghost use Rattle.runs.specs.Edges.{NoneOpen};
 ghost use Rattle.guards.specs.Spans.{in_span};
@@ -62,7 +62,7 @@ fn by_partner(view: &View, edge: &Edge, partner: &Edge, reach: u32) -> u32
 
 // An edge's guard and that of any partner begin to hold together.
 fn by_partners(view: &View, edge: &Edge, reach: u32) -> u32
-    ensures { ViewReaches view.entry.now (λ t. All (λ c. pairs_at (state_of view.entry.now) t edge.now c ≡ false) view.entry.now.edges.now) reach result }
+    ensures { ViewReaches view.entry.now (λ t. AllByRecursion (λ c. pairs_at (state_of view.entry.now) t edge.now c ≡ false) view.entry.now.edges.now) reach result }
 {
     let mut end = reach;
     for p in 0..view.edges.len() {

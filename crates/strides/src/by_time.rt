@@ -1,6 +1,6 @@
 // Jobs and triggers as obstacles of a stride: each function answers the last tick in front of its obstacle, at most `reach`.
 ghost use Rattle.std.specs.Prelude.{◌≡◌, ◌-◌, ◌≤◌, min, max, false};
-ghost use Rattle.std.specs.List.{AllByRecursion as All};
+ghost use Rattle.std.specs.List.{AllByRecursion};
 ghost use Rattle.jobs.specs.Jobs.{late};
 ghost use Rattle.ready_queue.specs.Waiting.{waiting};
 ghost use Rattle.strides.specs.Quiet.{Outlasts};
@@ -40,7 +40,7 @@ fn by_deadline(job: &Job, from: u32, reach: u32) -> u32
 
 // Any job that waits becomes late.
 pub fn by_deadlines(queue: &ReadyQueue, from: u32, reach: u32) -> u32
-    ensures { from ≤ reach → Reaches (λ t. All (λ j. late t j ≡ false) (waiting queue.now)) from reach result }
+    ensures { from ≤ reach → Reaches (λ t. AllByRecursion (λ j. late t j ≡ false) (waiting queue.now)) from reach result }
 {
     let mut end = reach;
     for place in 0..queue.len() {
