@@ -12,7 +12,8 @@ import os
 import re
 import sys
 
-TOKEN = re.compile(r"(?<![\w'·◌-])([A-Za-z_][\w']*(?:-[A-Za-z0-9_'][\w']*)+)(?![\w'-])")
+# a name with dashes, or a fact with underscores
+TOKEN = re.compile(r"(?<![\w'·◌-])([A-Za-z_][\w']*(?:-[A-Za-z0-9_'][\w']*)+|[A-Z][a-z]+(?:_[a-z]+)+)(?![\w'-])")
 USE = re.compile(r"\buse\s+([\w.'·+-]+)\.\{([^}]*)\}")
 FOREIGN = ("Rattle.std", "native", "lib.", "mathlib", "borrow", "Prim", "Rattle.core")
 
@@ -43,7 +44,7 @@ def foreign(text):
 
 
 def respelled(name):
-    parts = name.split("-")
+    parts = re.split("[-_]", name) if name[0].isupper() else name.split("-")
     if name[0].isupper():
         return "".join(p[0].upper() + p[1:] for p in parts)
     return "_".join(parts)
@@ -99,6 +100,17 @@ def main():
             return new[n]
         return TOKEN.sub(one, text)
 
+    # the library's fact goes by its own name: nothing else may be called All
+    for path in antt + rt:
+        text = read(path)
+        if "AllByRecursion as All" in text:
+            mark = "//" if path.endswith(".rt") else "--"
+            lines = []
+            for line in text.replace("AllByRecursion as All", "AllByRecursion").split("\n"):
+                code, comment = strip_comment(line, mark)
+                lines.append(re.sub(r"(?<![\w'.-])All(?![\w'-])", "AllByRecursion", code) + comment)
+            with open(path, "w", encoding="utf-8") as f:
+                f.write("\n".join(lines))
     for path in antt:
         text = read(path)
         keep = foreign("\n".join(strip_comment(l, "--")[0] for l in text.split("\n")))
