@@ -1,5 +1,5 @@
 -- A started job of priority 1 waits, and one of priority 9 comes.
-use Rattle.std.specs.Prelude.{◌≡◌, true, false, List, [], ◌∷◌}
+use Rattle.std.specs.Prelude.{◌≡◌, true, false, [], ◌∷◌}
 use Rattle.precedence.specs.Sorted.{put}
 use Rattle.jobs.specs.declared.job.Job.{Job}
 use Rattle.jobs.specs.Jobs.{job_before}

@@ -1,5 +1,5 @@
 -- The limits of each part of a sequence.
-use Rattle.std.specs.Prelude.{ℕ, Bool, true, false, ◌&&◌, List, [], ◌∷◌, ℤ, pos, negsuc, Some, None, Option, int_le, nat_le, nat_lt}
+use Rattle.std.specs.Prelude.{ℕ, Bool, true, false, ◌&&◌, List, [], ◌∷◌, pos, negsuc, Some, None, Option, int_le, nat_le, nat_lt}
 use Rattle.parts.specs.declared.part.Assignment.{Assignment}
 use Rattle.parts.specs.declared.part.Reset.{Reset}
 use Rattle.parts.specs.declared.part.Invariant.{Invariant}

@@ -1,9 +1,9 @@
 -- What follows from the laws of a weak order.
-use Rattle.std.proofs.Common.{◌≡◌, Bool, true, false, List, [], ◌∷◌, sym, refl, ◌∙◌, ⊎_elim}
+use Rattle.std.proofs.Common.{◌≡◌, Bool, true, false, List, [], ◌∷◌, refl, ⊎_elim}
 use Rattle.std.proofs.lemmas.Bool.{cases_Bool, both_ways, and_parts, and_from, not-true, not_from_false}
 use Rattle.std.specs.List.{AllByRecursion}
 use Rattle.precedence.specs.Laws.{WeakOrder}
-use Rattle.precedence.specs.Sorted.{by_key, none_before, InOrder}
+use Rattle.precedence.specs.Sorted.{by_key, none_before}
 
 -- an order on keys orders the records that have them
 pub by_key_lawful : {X K : Type 0} (key : X → K) (g : K → K → Bool) → WeakOrder g → WeakOrder (by_key key g)

@@ -1,5 +1,5 @@
 -- What an insertion does.
-use Rattle.std.specs.Prelude.{◌≡◌, ℕ, ◌+◌, ◌<◌, ◌≤◌, Bool, true, false, List, [], ◌∷◌, ◌++◌, length, take, drop, Ok, Err, Result}
+use Rattle.std.specs.Prelude.{◌≡◌, ℕ, ◌+◌, ◌<◌, ◌≤◌, Bool, true, false, List, ◌∷◌, ◌++◌, length, take, drop, Ok, Err, Result}
 use Rattle.std.specs.List.{AllByRecursion}
 use Rattle.precedence.specs.Sorted.{InOrder, put}
 

@@ -1,5 +1,5 @@
 -- Records in order, and a record put at its place.
-use Rattle.std.specs.Prelude.{◌≡◌, Bool, true, false, cond, not, ◌&&◌, List, [], ◌∷◌}
+use Rattle.std.specs.Prelude.{◌≡◌, Bool, true, cond, not, ◌&&◌, List, [], ◌∷◌}
 
 -- an order on records, by their keys
 abbrev pub by_key : {X K : Type 0} → (X → K) → (K → K → Bool) → X → X → Bool

@@ -1,5 +1,5 @@
 -- What the calls of the ready queue do, by the waiting jobs before and after.
-use Rattle.std.specs.Prelude.{◌≡◌, ℕ, ◌<◌, Bool, true, false, List, [], ◌∷◌, length, Some, None, Ok, Err, Option, Result}
+use Rattle.std.specs.Prelude.{◌≡◌, ◌<◌, Bool, false, List, [], length, Some, None, Ok, Err, Option, Result}
 use Rattle.std.specs.List.{slice_get, AllByRecursion}
 use Rattle.precedence.specs.Laws.{WeakOrder}
 use Rattle.precedence.specs.Sorted.{InOrder, put}

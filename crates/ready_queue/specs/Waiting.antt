@@ -1,5 +1,5 @@
 -- The waiting jobs as a list, the first one in front.
-use Rattle.std.specs.Prelude.{◌≡◌, ℕ, Bool, cond, List, [], ◌∷◌, take, Some, None, Option, ◌≢◌}
+use Rattle.std.specs.Prelude.{ℕ, cond, List, [], ◌∷◌, take, Some, None, Option, ◌≢◌}
 use Rattle.std.specs.List.{AllByRecursion}
 use Rattle.jobs.specs.declared.job.Job.{Job}
 use Rattle.jobs.specs.Jobs.{late, worked}

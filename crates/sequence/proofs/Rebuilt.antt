@@ -1,18 +1,17 @@
 -- The parts of a sound plan are all accepted again.
-use Rattle.std.proofs.Common.{◌≡◌, ℕ, ◌+◌, ◌<◌, ◌≤◌, Bool, true, false, cond, ◌&&◌, eqb, ltb, leb, List, [], ◌∷◌, ◌++◌, length, Ok, Err, Result, sym, refl, ap, ◌∙◌, subst, ⊎_elim, arith}
+use Rattle.std.proofs.Common.{◌≡◌, ℕ, ◌+◌, ◌<◌, ◌≤◌, Bool, true, eqb, List, [], ◌∷◌, ◌++◌, length, Ok, Result, sym, ap, ◌∙◌, subst, ⊎_elim, arith}
 use Rattle.std.proofs.lemmas.List.{append_assoc, append-nil, length-append}
 use Rattle.std.proofs.lemmas.Bool.{and_parts, and_from, cond-true, lt-ltb, eqb-true, or_cases}
-use Rattle.parts.specs.declared.part.Counts.{Counts}
 use Rattle.parts.specs.declared.part.Variable.{Variable}
 use Rattle.parts.specs.declared.part.Task.{Task}
 use Rattle.parts.specs.declared.part.Location.{Location}
 use Rattle.parts.specs.declared.part.Edge.{Edge}
 use Rattle.parts.specs.declared.part.Rule.{Rule}
 use Rattle.parts.specs.Limits.{variable_fits, task_fits, location_fits, edge_fits}
-use Rattle.sequence.specs.Plan.{Plan, Valid, scope, each, ends_fit, reached, next_of, in_turn, sound}
-use Rattle.sequence.specs.Building.{begin, begun, add_variable, add_task, add_location, add_edge}
+use Rattle.sequence.specs.Plan.{Plan, scope, each, ends_fit, reached, in_turn}
+use Rattle.sequence.specs.Building.{begin, add_variable, add_task, add_location, add_edge}
 use Rattle.sequence.specs.Rebuilding.{and_then, add_all, rebuilt}
-use Rattle.sequence.proofs.Sound.{Sound, sound_facts, reached_push}
+use Rattle.sequence.proofs.Sound.{Sound, reached_push}
 
 -- parts that are accepted one by one, over any way to hold those that are in
 module _ {X : Type 0} (add : Plan → X → Result Plan Rule) (holding : List X → Plan) (fine : List X → List X → Type 0) where

@@ -1,5 +1,5 @@
 -- A plan built part by part: what each part needs, and the rule that is named where it is refused.
-use Rattle.std.specs.Prelude.{◌≡◌, ℕ, ◌+◌, Bool, true, false, cond, ◌&&◌, List, [], ◌∷◌, ◌++◌, length, Ok, Err, Result, ◌==◌, nat_lt}
+use Rattle.std.specs.Prelude.{ℕ, Bool, cond, ◌&&◌, List, [], ◌∷◌, ◌++◌, length, Ok, Err, Result, ◌==◌, nat_lt}
 use Rattle.parts.specs.declared.part.Variable.{Variable}
 use Rattle.parts.specs.declared.part.Task.{Task}
 use Rattle.parts.specs.declared.part.Location.{Location}

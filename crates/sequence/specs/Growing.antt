@@ -1,5 +1,5 @@
 -- The last part of a kind grows: one more assignment, invariant, condition or clock to zero in the first free place of its group.
-use Rattle.std.specs.Prelude.{ℕ, Bool, true, false, cond, ◌&&◌, List, [], ◌∷◌, length, Some, None, Ok, Err, Option, Result, nat_lt}
+use Rattle.std.specs.Prelude.{ℕ, Bool, cond, ◌&&◌, List, [], ◌∷◌, length, Some, None, Ok, Err, Option, Result, nat_lt}
 use Rattle.parts.specs.declared.part.Assignment.{Assignment}
 use Rattle.parts.specs.declared.part.Reset.{Reset}
 use Rattle.parts.specs.declared.part.Condition.{Condition}

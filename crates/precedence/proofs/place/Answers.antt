@@ -1,4 +1,4 @@
-use Rattle.std.proofs.Common.{◌≡◌, true, false, sym, rules}
+use Rattle.std.proofs.Common.{◌≡◌, true, false, rules}
 use Rattle.precedence.specs.Sorted.{by_key}
 use Rattle.precedence.proofs.Placing.{place_here, place_later, place_last}
 use Rattle.precedence.proofs.place.Goals as goal

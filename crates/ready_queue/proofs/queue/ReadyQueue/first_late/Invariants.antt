@@ -1,4 +1,4 @@
-use Rattle.std.proofs.Common.{◌≡◌, take, drop}
+use Rattle.std.proofs.Common.{◌≡◌, drop}
 use Rattle.ready_queue.specs.Waiting.{waiting, first_late}
 use Rattle.ready_queue.proofs.queue.ReadyQueue.first_late.Given as goal
 

@@ -1,4 +1,4 @@
-use Rattle.std.proofs.Common.{◌≡◌, ◌<◌, true, List, length, vec_items, sym, subst, arith}
+use Rattle.std.proofs.Common.{◌≡◌, ◌<◌, true, List, length, sym, subst, arith}
 use Rattle.parts.specs.declared.part.Variable.{Variable}
 use Rattle.sequence.specs.Plan.{sound}
 use Rattle.sequence.specs.Model.{plan_of}
