@@ -4,7 +4,7 @@ use Rattle.sources.specs.declared.trigger.Trigger.{Trigger}
 use Rattle.ready_queue.specs.Waiting.{waiting}
 use Rattle.sequence.specs.Whole.{plan}
 use Rattle.runs.specs.State.{State}
-use Rattle.machine.specs.declared.core.Core.{Core}
+use Rattle.machine.specs.declared.engine_core.Core.{Core}
 
 -- with the triggers that its source still gives
 abbrev pub model : List Trigger → Core → State

@@ -13,9 +13,9 @@ ghost use Rattle.machine.specs.Model.{model};
 ghost use Rattle.machine.specs.Spent.{without_finished};
 ghost use Rattle.machine.specs.Views.{Shows};
 
-pub mod core;
+pub mod engine_core;
 
-use core::Core;
+use engine_core::Core;
 use jobs::job::Job;
 use runs::event::{Phase, Worker};
 use search::view::View;

@@ -1,11 +1,11 @@
 -- The foremost open edge and its partner, found by going through the edges.
-use Rattle.std.proofs.Common.{◌≡◌, ℕ, zero, suc, ◌+◌, ◌<◌, ◌≤◌, Bool, true, false, cond, ◌⊎◌, List, [], ◌∷◌, length, Some, None, Option, sym, refl, ap, ◌∙◌, subst, inl, inr, add-zero, zero-add, arith}
+use Rattle.std.proofs.Common.{◌≡◌, ℕ, zero, suc, ◌+◌, ◌<◌, ◌≤◌, true, false, cond, ◌⊎◌, List, [], ◌∷◌, length, Some, None, Option, sym, ap, ◌∙◌, subst, inl, inr, add-zero, zero-add, arith}
 use Rattle.std.specs.List.{slice_get}
 use Rattle.std.proofs.lemmas.Option.{slice_get_past}
 use Rattle.std.proofs.lemmas.Bool.{cases_lt, cond_both, both_ways}
 use Rattle.parts.specs.declared.part.Edge.{Edge}
 use Rattle.runs.specs.State.{State}
-use Rattle.runs.specs.Edges.{Open, Joins, Shut, NoneOpen, Foremost, Found, Finds, goes_alone, ready, fits}
+use Rattle.runs.specs.Edges.{Open, Shut, Found, Finds, goes_alone, ready, fits}
 
 pub nth_in : {X : Type 0} (xs : List X) (i : ℕ) (x : X) → slice_get xs i ≡ Some x → i < length xs
 nth_in xs i x e = by (cases_lt i (length xs))

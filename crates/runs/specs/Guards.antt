@@ -1,6 +1,5 @@
 -- When conditions, guards and invariants hold.
-use Rattle.std.specs.Prelude.{ℕ, ◌-◌, Bool, true, false, cond, ◌&&◌, List, [], ◌∷◌, ℤ, pos, ◌-ℤ◌, Some, None, Option, int_le, int_lt, nat_le, nat_lt, slice_index, slice_index_or}
-use Rattle.std.specs.List.{slice_get}
+use Rattle.std.specs.Prelude.{ℕ, ◌-◌, Bool, true, cond, ◌&&◌, List, [], ◌∷◌, ℤ, pos, ◌-ℤ◌, Some, None, Option, int_le, int_lt, nat_le, nat_lt, slice_index, slice_index_or}
 use Rattle.parts.specs.declared.part.Relation.{Relation}
 use Rattle.parts.specs.declared.part.Relation.TheVariants.{Lt, Le, Eq, Ge, Gt}
 use Rattle.parts.specs.declared.part.Condition.{Condition}

@@ -1,12 +1,12 @@
 -- A search over candidates finds what a search over all edges finds.
-use Rattle.std.proofs.Common.{◌≡◌, ℕ, ◌+◌, ◌<◌, ◌≤◌, Bool, true, false, not, ◌&&◌, eqb, ◌⊎◌, List, [], ◌∷◌, length, Some, None, Option, sym, refl, ap, ◌∙◌, subst, inl, inr, arith}
+use Rattle.std.proofs.Common.{◌≡◌, ℕ, ◌+◌, ◌<◌, ◌≤◌, true, not, ◌&&◌, eqb, ◌⊎◌, List, length, Some, None, Option, subst, inl, inr, arith}
 use Rattle.std.specs.List.{slice_get}
-use Rattle.std.proofs.lemmas.Bool.{cases_lt, cases_eq, and_parts, both_ways}
+use Rattle.std.proofs.lemmas.Bool.{cases_lt, cases_eq, and_parts}
 use Rattle.parts.specs.declared.part.Edge.{Edge}
 use Rattle.runs.specs.State.{State, automaton}
-use Rattle.runs.specs.Edges.{Open, Shut, NoneOpen, Found, Finds, leaves_current, ready, goes_alone, opposite, fits}
+use Rattle.runs.specs.Edges.{Open, Shut, NoneOpen, Finds, leaves_current, ready, goes_alone, opposite, fits}
 use Rattle.runs.specs.Guards.{guard_holds}
-use Rattle.runs.proofs.Searching.{nth_in, shut_unready, unfit, below_more}
+use Rattle.runs.proofs.Searching.{nth_in, below_more}
 use Rattle.search.specs.Views.{Covers, Rises}
 
 abbrev pub ShutBefore : State → List ℕ → ℕ → Type 0

@@ -1,5 +1,5 @@
 -- A view as a state of a run: what no edge depends on is empty.
-use Rattle.std.specs.Prelude.{◌≡◌, ℕ, ◌<◌, Bool, true, false, List, [], ◌∷◌, Some, None, Option}
+use Rattle.std.specs.Prelude.{◌≡◌, ℕ, ◌<◌, true, false, List, [], Some}
 use Rattle.std.specs.List.{slice_get}
 use Rattle.parts.specs.declared.part.Edge.{Edge}
 use Rattle.runs.specs.declared.event.Phase.TheVariants.{Edges}

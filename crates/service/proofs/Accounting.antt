@@ -1,9 +1,9 @@
 -- What each waiting job has worked and what remains make its C; nothing leaves its bounds.
-use Rattle.std.proofs.Common.{◌≡◌, ℕ, zero, suc, ◌+◌, ◌-◌, ◌<◌, ◌≤◌, Bool, true, false, cond, ◌&&◌, eqb, ltb, leb, ◌⊎◌, List, [], ◌∷◌, ◌++◌, length, get_or, set, replicate, ℤ, pos, Some, None, Option, sym, refl, ap, ◌∙◌, subst, inl, inr, arith, length-set, get_or-set_other, get_or-set_same}
+use Rattle.std.proofs.Common.{◌≡◌, ℕ, zero, suc, ◌+◌, ◌-◌, ◌<◌, ◌≤◌, Bool, true, false, ◌&&◌, eqb, ltb, ◌⊎◌, List, [], ◌∷◌, ◌++◌, length, get_or, set, replicate, ℤ, pos, Some, None, Option, sym, refl, ap, ◌∙◌, subst, inl, inr, arith, length-set, get_or-set_other, get_or-set_same}
 use Rattle.std.specs.List.{slice_get, AllByRecursion}
 use Rattle.std.proofs.ByRecursion.{All-weaker}
 use Rattle.std.proofs.lemmas.List.{length-replicate, set_past}
-use Rattle.std.proofs.lemmas.Bool.{cases_eq, cases_lt, cases_Bool, cond_both, cond-true, cond-false, and_parts, and_from, ltb-true, ltb-false, le-ltb, leb-true, ne_eqb, eq-eqb, eqb-true, both_ways}
+use Rattle.std.proofs.lemmas.Bool.{cases_eq, cases_lt, cases_Bool, cond_both, cond-true, cond-false, and_parts, ltb-true, ltb-false, le-ltb, leb-true, ne_eqb, eq-eqb}
 use Rattle.precedence.proofs.Putting.{length_put}
 use Rattle.jobs.specs.declared.job.Job.{Job}
 use Rattle.jobs.specs.declared.job.JobKey.{JobKey}
@@ -17,30 +17,27 @@ use Rattle.parts.specs.declared.part.Assignment.{Assignment}
 use Rattle.parts.specs.declared.part.Reset.{Reset}
 use Rattle.parts.specs.declared.part.Location.{Location}
 use Rattle.parts.specs.declared.part.Edge.{Edge}
-use Rattle.sequence.specs.Plan.{Plan, Valid, each, scope, sound}
+use Rattle.sequence.specs.Plan.{Plan, each, scope}
 use Rattle.sequence.proofs.Sound.{Sound, sound_facts}
 use Rattle.runs.specs.declared.event.Phase.{Phase}
 use Rattle.runs.specs.declared.event.Phase.TheVariants.{Late, Finish, Arrival, Edges, Close, Pass}
 use Rattle.runs.specs.declared.event.Cause.TheVariants.{Overload}
-use Rattle.runs.specs.declared.event.Line.TheVariants as line
-use Rattle.runs.specs.declared.event.Worker.{Worker}
 use Rattle.runs.specs.declared.event.Event.{Event}
-use Rattle.runs.specs.declared.event.Event.TheVariants.{Made, Came, Left, Passed}
-use Rattle.runs.specs.State.{State, start, in_phase, starting_places, starting_values, lowest, most_jobs, most_steps, automaton}
+use Rattle.runs.specs.declared.event.Event.TheVariants.{Passed}
+use Rattle.runs.specs.State.{State, start, in_phase, starting_places, starting_values, most_jobs, most_steps, automaton}
 use Rattle.runs.specs.Values.{in_range, no_variable, assigned_value, assign, and_then, assign_all, assign_edges}
-use Rattle.runs.specs.Jobs.{Queue, worker, finished, task_assignments, release_task, release_edges}
-use Rattle.runs.specs.Edges.{sides, released, reset_one, reset_all, reset_edges, move_edges, take_trigger}
+use Rattle.runs.specs.Jobs.{Queue, worker, finished, task_assignments, release_edges}
+use Rattle.runs.specs.Edges.{sides, released, reset_all, reset_edges, move_edges, take_trigger}
 use Rattle.parts.specs.declared.part.Label.{Label}
 use Rattle.parts.specs.declared.part.Label.TheVariants as label
 use Rattle.runs.specs.Rules.{Leaves, NonePresent, Refuses, behind}
 use Rattle.runs.specs.Runs.{Free, Run}
 use Rattle.runs.specs.Laws.{count_if}
-use Rattle.runs.proofs.Conserving.{none_at_start}
-use Rattle.service.specs.Work.{names, works_in, ticks_worked, DoneRight, DoneMeansExactlyCWithinD}
-use Rattle.service.specs.Bounds.{InRanges, Bounded, NothingLeavesItsBounds}
-use Rattle.service.proofs.Steps.{Still, Kind, kind, along, worked_more}
+use Rattle.service.specs.Work.{works_in, ticks_worked, DoneMeansExactlyCWithinD}
+use Rattle.service.specs.Bounds.{InRanges, NothingLeavesItsBounds}
+use Rattle.service.proofs.Steps.{Kind, kind, along, worked_more}
 use Rattle.service.proofs.Releasing.{all_put, all_kept}
-use Rattle.service.proofs.Numbering.{Counted, counted_kept, counted_start, Below, Numbered}
+use Rattle.service.proofs.Numbering.{Counted, counted_kept, counted_start}
 
 -- ---- variables stay in their ranges
 

@@ -1,6 +1,6 @@
 -- A job goes on where it was.
-use Rattle.std.proofs.Common.{◌≡◌, ℕ, zero, suc, ◌+◌, ◌<◌, ◌≤◌, Bool, true, false, cond, ◌⊎◌, List, [], ◌∷◌, ◌++◌, length, get_or, Some, None, Option, sym, refl, ap, ◌∙◌, subst, inl, inr, arith}
-use Rattle.std.specs.List.{ContainsAt as Has, HoldsAt, AllByRecursion}
+use Rattle.std.proofs.Common.{◌≡◌, ℕ, zero, suc, ◌≤◌, Bool, List, [], ◌∷◌, Option, sym, refl, ap, ◌∙◌, subst, inl, inr, arith}
+use Rattle.std.specs.List.{ContainsAt as Has, AllByRecursion}
 use Rattle.std.proofs.ByRecursion.{All-weaker, all_has_itself}
 use Rattle.std.proofs.lemmas.Bool.{cond_both}
 use Rattle.precedence.specs.Sorted.{put}
@@ -9,18 +9,16 @@ use Rattle.jobs.specs.declared.job.JobKey.{JobKey}
 use Rattle.jobs.specs.Jobs.{job_before, released_job, worked}
 use Rattle.ready_queue.specs.Waiting.{serve_first}
 use Rattle.parts.specs.declared.part.Edge.{Edge}
-use Rattle.sequence.specs.Plan.{Plan}
 use Rattle.runs.specs.declared.event.Line.TheVariants as line
-use Rattle.runs.specs.declared.event.Worker.{Worker}
 use Rattle.runs.specs.declared.event.Event.{Event}
-use Rattle.runs.specs.declared.event.Event.TheVariants.{Made, Came, Left, Passed}
+use Rattle.runs.specs.declared.event.Event.TheVariants.{Made, Passed}
 use Rattle.runs.specs.State.{State, start}
 use Rattle.runs.specs.Jobs.{Queue, worker, release_edges}
 use Rattle.runs.specs.Edges.{sides, released}
 use Rattle.runs.specs.Rules.{Takes}
 use Rattle.runs.specs.Runs.{Free}
 use Rattle.runs.proofs.Choosing.{at_each}
-use Rattle.service.specs.Jobs.{WorkedFrom, ReleasedBy, Origin, Fate, GoesOn, JobsGoOn}
+use Rattle.service.specs.Jobs.{Origin, Fate, GoesOn, JobsGoOn}
 use Rattle.service.proofs.Steps.{Kind, kind}
 use Rattle.service.proofs.Releasing.{all_put, all_kept}
 

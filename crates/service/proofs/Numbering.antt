@@ -1,5 +1,5 @@
 -- Job numbers: given in turn, never twice, and worked only while they wait.
-use Rattle.std.proofs.Common.{◌≡◌, ℕ, ◌+◌, ◌<◌, ◌≤◌, Bool, true, false, eqb, ◌⊎◌, List, [], ◌∷◌, ◌++◌, Some, None, Option, sym, refl, ap, ◌∙◌, subst, inl, inr, arith}
+use Rattle.std.proofs.Common.{◌≡◌, ℕ, ◌+◌, ◌<◌, ◌≤◌, Bool, List, [], ◌∷◌, ◌++◌, sym, refl, ap, ◌∙◌, subst, inl, inr, arith}
 use Rattle.std.specs.List.{AllByRecursion}
 use Rattle.std.proofs.ByRecursion.{All-weaker}
 use Rattle.std.proofs.lemmas.Bool.{ne_eqb}
@@ -11,18 +11,15 @@ use Rattle.ready_queue.proofs.Lists.{apart_put}
 use Rattle.sources.specs.declared.trigger.Trigger.{Trigger}
 use Rattle.parts.specs.declared.part.Edge.{Edge}
 use Rattle.sequence.specs.Plan.{Plan}
-use Rattle.runs.specs.declared.event.Line.TheVariants as line
-use Rattle.runs.specs.declared.event.Worker.{Worker}
 use Rattle.runs.specs.declared.event.Event.{Event}
-use Rattle.runs.specs.declared.event.Event.TheVariants.{Made, Came, Left, Passed}
 use Rattle.runs.specs.State.{State, start}
 use Rattle.runs.specs.Jobs.{Queue, worker, release_edges}
-use Rattle.runs.specs.Edges.{sides, released}
+use Rattle.runs.specs.Edges.{sides}
 use Rattle.runs.specs.Rules.{Finishes}
 use Rattle.runs.specs.Runs.{Free, Run}
 use Rattle.runs.specs.Laws.{count_if}
 use Rattle.service.specs.Work.{names, works_in, ticks_worked, WorksOnlyBetween}
-use Rattle.service.proofs.Steps.{Still, Kind, kind, along, worked_more}
+use Rattle.service.proofs.Steps.{Kind, kind, along, worked_more}
 use Rattle.service.proofs.Releasing.{all_put, all_kept}
 
 abbrev pub Below : ℕ → Job → Type 0

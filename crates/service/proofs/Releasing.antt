@@ -1,11 +1,9 @@
 -- What releases keep.
-use Rattle.std.proofs.Common.{◌≡◌, ℕ, ◌+◌, Bool, true, false, cond, List, [], ◌∷◌, Some, None, Option, refl}
+use Rattle.std.proofs.Common.{◌≡◌, ℕ, Bool, List, [], ◌∷◌, Some, None, Option, refl}
 use Rattle.std.specs.List.{slice_get, AllByRecursion}
 use Rattle.std.proofs.lemmas.Bool.{cond_both}
 use Rattle.precedence.specs.Sorted.{put}
-use Rattle.jobs.specs.declared.job.Job.{Job}
 use Rattle.jobs.specs.declared.job.JobKey.{JobKey}
-use Rattle.jobs.specs.Jobs.{job_before, released_job}
 use Rattle.parts.specs.declared.part.Task.{Task}
 use Rattle.parts.specs.declared.part.Edge.{Edge}
 use Rattle.sequence.specs.Plan.{Plan}

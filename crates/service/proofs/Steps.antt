@@ -5,14 +5,14 @@ use Rattle.runs.specs.declared.event.Line.{Line}
 use Rattle.std.proofs.lemmas.List.{append-nil, append_assoc}
 use Rattle.jobs.specs.declared.job.JobKey.{JobKey}
 use Rattle.runs.specs.declared.event.Phase.{Phase}
-use Rattle.runs.specs.declared.event.Phase.TheVariants.{Late, Finish, Arrival, Edges, Close, Pass}
+use Rattle.runs.specs.declared.event.Phase.TheVariants.{Arrival, Close, Pass}
 use Rattle.runs.specs.declared.event.Cause.TheVariants.{Deadline, Invariant, EdgeRange, TaskRange, Overload, StepLimit}
 use Rattle.runs.specs.declared.event.Line.TheVariants as line
 use Rattle.runs.specs.declared.event.Worker.{Worker}
 use Rattle.runs.specs.declared.event.Event.{Event}
 use Rattle.runs.specs.declared.event.Event.TheVariants.{Made, Came, Left, Passed}
 use Rattle.runs.specs.State.{State, stopped, with_triggers}
-use Rattle.runs.specs.Rules.{Takes, Finishes, Passes, Leaves, Repels, Clears, NonePresent}
+use Rattle.runs.specs.Rules.{Takes, Finishes, Passes, Leaves, Repels, Clears}
 use Rattle.runs.specs.Runs.{Free, Run}
 use Rattle.runs.specs.Laws.{AtEach}
 use Rattle.service.specs.Work.{works_in, ticks_worked}

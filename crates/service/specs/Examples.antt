@@ -1,5 +1,5 @@
 -- Worked facts about jobs: deadlines met and missed, releases, a task's assignments, and one whole run.
-use Rattle.std.specs.Prelude.{◌≡◌, ℕ, Bool, true, false, List, [], ◌∷◌, ◌++◌, replicate, pos, Some, None, Option}
+use Rattle.std.specs.Prelude.{ℕ, false, List, [], ◌∷◌, ◌++◌, replicate, pos, Some, None}
 use Rattle.jobs.specs.Orders.{fp_before}
 use Rattle.sources.specs.declared.trigger.Trigger.{Trigger}
 use Rattle.parts.specs.declared.part.Relation.TheVariants.{Ge}
@@ -8,7 +8,6 @@ use Rattle.parts.specs.declared.part.Location.{Location}
 use Rattle.parts.specs.declared.part.Label.TheVariants as label
 use Rattle.sequence.specs.Plan.{Plan}
 use Rattle.runs.specs.declared.event.Cause.TheVariants.{Deadline, TaskRange, Overload}
-use Rattle.runs.specs.declared.event.Line.{Line}
 use Rattle.runs.specs.declared.event.Line.TheVariants as line
 use Rattle.runs.specs.Examples.{Shows, place, edge, guarded, set_to, add_to}
 

@@ -1,5 +1,5 @@
 -- Who works in a tick, and how often a job has worked.
-use Rattle.std.specs.Prelude.{◌≡◌, ℕ, ◌+◌, ◌≤◌, Bool, true, false, List, [], ◌∷◌, ◌++◌, Some, None, Option, ◌==◌}
+use Rattle.std.specs.Prelude.{◌≡◌, ℕ, ◌+◌, ◌≤◌, Bool, false, List, [], ◌∷◌, ◌++◌, Some, None, Option, ◌==◌}
 use Rattle.std.specs.List.{AllByRecursion}
 use Rattle.precedence.specs.Laws.{WeakOrder}
 use Rattle.precedence.specs.Sorted.{InOrder}
@@ -13,7 +13,7 @@ use Rattle.runs.specs.declared.event.Worker.{Worker}
 use Rattle.runs.specs.declared.event.Line.TheVariants as line
 use Rattle.runs.specs.declared.event.Event.{Event}
 use Rattle.runs.specs.declared.event.Event.TheVariants.{Made, Came, Left, Passed}
-use Rattle.runs.specs.State.{State, start}
+use Rattle.runs.specs.State.{State}
 use Rattle.runs.specs.Runs.{Free, Run, FreeRun}
 use Rattle.runs.specs.Laws.{AtEach, count_if}
 

@@ -1,22 +1,20 @@
 -- One quiet tick is six events; n of them by induction.
-use Rattle.std.proofs.Common.{◌≡◌, ℕ, zero, suc, ◌+◌, ◌-◌, ◌<◌, ◌≤◌, Bool, true, false, cond, eqb, ltb, List, [], ◌∷◌, ◌++◌, Some, None, Option, sym, refl, ap, ◌∙◌, subst, arith}
+use Rattle.std.proofs.Common.{◌≡◌, ℕ, zero, suc, ◌+◌, ◌-◌, ◌<◌, ◌≤◌, Bool, true, false, List, [], ◌∷◌, ◌++◌, Some, None, Option, sym, refl, ap, ◌∙◌, subst, arith}
 use Rattle.std.specs.List.{AllByRecursion}
-use Rattle.std.proofs.ByRecursion.{All-weaker}
 use Rattle.std.proofs.lemmas.Bool.{cond-false, ne_eqb, le-ltb, ltb-false}
 use Rattle.jobs.specs.declared.job.Job.{Job}
 use Rattle.jobs.specs.declared.job.JobKey.{JobKey}
-use Rattle.jobs.specs.Jobs.{late, worked}
+use Rattle.jobs.specs.Jobs.{late}
 use Rattle.ready_queue.specs.Waiting.{serve_first, first_late}
 use Rattle.sources.specs.declared.trigger.Trigger.{Trigger}
 use Rattle.parts.specs.declared.part.Edge.{Edge}
-use Rattle.parts.specs.Limits.{last_tick}
 use Rattle.runs.specs.declared.event.Phase.{Phase}
 use Rattle.runs.specs.declared.event.Phase.TheVariants.{Late, Finish, Arrival, Edges, Close, Pass}
 use Rattle.runs.specs.declared.event.Event.{Event}
-use Rattle.runs.specs.declared.event.Event.TheVariants.{Made, Came, Left, Passed}
+use Rattle.runs.specs.declared.event.Event.TheVariants.{Left, Passed}
 use Rattle.runs.specs.State.{State, in_phase}
 use Rattle.runs.specs.Jobs.{finished, worker}
-use Rattle.runs.specs.Edges.{Open, Joins, NoneOpen}
+use Rattle.runs.specs.Edges.{Joins, NoneOpen}
 use Rattle.runs.specs.Rules.{next_tick, NoTriggerDue}
 use Rattle.runs.specs.Runs.{Strict, Run, lines}
 use Rattle.strides.specs.Quiet.{at_tick, Outlasts, NoneDueBy, Quiet, served_by, strode, QuietTicksPassTogether}

@@ -1,6 +1,3 @@
-use Rattle.std.proofs.Common.{◌≡◌, ℕ, ◌<◌, Some, None}
-use Rattle.std.specs.List.{slice_get}
-use Rattle.runs.specs.Edges.{Shut}
 use Rattle.search.specs.Views.{state_of, Covers, Rises}
 use Rattle.search.proofs.Candidates.{ShutBefore, UnfitBefore}
 use Rattle.search.proofs.view.View.foremost.Given as goal

@@ -2,7 +2,7 @@ use Rattle.std.proofs.Common.{[], take, ap, ◌∙◌}
 use Rattle.runs.specs.State.{with_triggers}
 use Rattle.machine.specs.Model.{model}
 use Rattle.machine.proofs.Rows.{take_set}
-use Rattle.machine.proofs.core.Core.mark.Goals as goal
+use Rattle.machine.proofs.engine_core.Core.mark.Goals as goal
 
 pub returns : goal.returns
 returns c =

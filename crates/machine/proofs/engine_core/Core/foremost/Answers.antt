@@ -5,7 +5,7 @@ use Rattle.search.specs.Views.{state_of}
 use Rattle.machine.specs.Model.{model}
 use Rattle.machine.proofs.Alike.{finds_shown}
 use Rattle.machine.proofs.Numbers.{all_rise, all_cover}
-use Rattle.machine.proofs.core.Core.foremost.Goals as goal
+use Rattle.machine.proofs.engine_core.Core.foremost.Goals as goal
 
 pub returns : goal.returns
 returns c =
