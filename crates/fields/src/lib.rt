@@ -1,5 +1,6 @@
 // The value of a line in fields, and what the fields say.
 #![tactic(auto)]
+
 pub mod field;
 mod number;
 pub mod value;

@@ -1,16 +1,18 @@
--- A group of n places as the parts in its first places, the groups of what fits, and lists that end in a part.
-use Rattle.std.proofs.Common.{◌≡◌, ℕ, zero, suc, ◌+◌, ◌<◌, ◌≤◌, Bool, true, false, ◌&&◌, eqb, ltb, List, [], ◌∷◌, ◌++◌, length, Some, None, Option, refl, ap, ◌∙◌, subst, arith}
+-- A group of n places as the parts in its first places, the groups of what fits and is in its widths, and lists that end in a part.
+use Rattle.std.proofs.Common.{◌≡◌, ℕ, zero, suc, ◌<◌, ◌≤◌, Bool, true, false, ◌&&◌, ltb, leb, List, [], ◌∷◌, ◌++◌, length, Some, None, Option, refl, ap, ◌∙◌, subst, arith}
 use Rattle.std.proofs.lemmas.List.{length_push}
 use Rattle.std.proofs.lemmas.Bool.{and_parts, and_from, eqb-true, ne_eqb, lt-ltb}
 use Rattle.parts.specs.declared.part.Scope.{Scope}
 use Rattle.parts.specs.declared.part.Task.{Task}
 use Rattle.parts.specs.declared.part.Location.{Location}
 use Rattle.parts.specs.declared.part.Edge.{Edge}
-use Rattle.parts.specs.Limits.{none_left, group_fits, GroupOf, assignment_fits, reset_fits, invariant_fits, condition_fits, task_fits, location_fits, edge_fits}
+use Rattle.parts.specs.Limits.{none_left, group_fits, assignment_fits, reset_fits, invariant_fits, condition_fits, task_fits, location_fits, edge_fits}
 use Rattle.sequence.specs.Plan.{each}
 use Rattle.sequence.specs.Building.{none}
 use Rattle.sequence.specs.Growing.{used, fill, change_last, has_room}
 use Rattle.sequence.proofs.Growing.{used_none, task_facts, location_facts, edge_facts}
+use Rattle.grammar.specs.Widths.{assignment_in_widths, condition_in_widths, has_places, group_in_widths, task_in_widths, location_in_widths, edge_in_widths}
+use Rattle.grammar.proofs.Narrow.{edge_widths, narrow_assignment, narrow_condition, narrow_task, narrow_location, narrow_edge, each_both}
 
 module _ {X : Type 0} where
   -- n places, the first of them with these parts
@@ -62,24 +64,39 @@ module _ {X : Type 0} where
         fit = and_from (fits x) (each fits (used xs)) p.0 r.fit;
       }
 
-  group_facts : (n : ℕ) (fits : X → Bool) (g : List (Option X)) → GroupOf n fits g ≡ true → Group n fits g
-  group_facts n fits g h =
-      let p = and_parts (eqb (length g) n) (group_fits fits g) h in
-      subst (λ (k : ℕ). Group k fits g) (eqb-true (length g) n p.0) (group_parts fits g p.1)
+  group_facts : (n : ℕ) (fits : X → Bool) (g : List (Option X)) → group_fits fits g ≡ true → has_places n g ≡ true → Group n fits g
+  group_facts n fits g h w = subst (λ (k : ℕ). Group k fits g) (eqb-true (length g) n w) (group_parts fits g h)
 
--- ---- the groups of what fits
+  -- and of one whose parts are in their widths too
+  narrow_group : (n : ℕ) (fits widths : X → Bool) (g : List (Option X)) → group_fits fits g ≡ true → group_in_widths n widths g ≡ true → Group n (λ x. fits x && widths x) g
+  narrow_group n fits widths g h w =
+      let p = and_parts (has_places n g) (each widths (used g)) w in
+      let r = group_facts n fits g h p.0 in
+      record { places = r.places; few = r.few; fit = each_both fits widths (used g) r.fit p.1 }
+
+-- ---- the groups of what fits and is in its widths
 
 module _ (s : Scope) where
-  pub task_group : (t : Task) → task_fits s t ≡ true → Group 4 (assignment_fits s) t.assignments
-  task_group t h = group_facts 4 (assignment_fits s) t.assignments (task_facts s t h).assignments
+  pub task_group : (t : Task) → narrow_task s t ≡ true → Group 4 (narrow_assignment s) t.assignments
+  task_group t h =
+      let x = and_parts (task_fits s t) (task_in_widths t) h in
+      let w = and_parts (leb t.priority 255) (group_in_widths 4 assignment_in_widths t.assignments) x.1 in
+      narrow_group 4 (assignment_fits s) assignment_in_widths t.assignments (task_facts s t x.0).assignments w.1
 
-  pub location_group : (l : Location) → location_fits s l ≡ true → Group 2 (invariant_fits s) l.invariants
-  location_group l h = group_facts 2 (invariant_fits s) l.invariants (location_facts s l h).1
+  pub location_group : (l : Location) → narrow_location s l ≡ true → Group 2 (invariant_fits s) l.invariants
+  location_group l h =
+      let x = and_parts (location_fits s l) (location_in_widths l) h in
+      group_facts 2 (invariant_fits s) l.invariants (location_facts s l x.0).1 x.1
 
-  pub edge_groups : (e : Edge) → edge_fits s e ≡ true → Group 4 (condition_fits s) e.guard × Group 4 (reset_fits s) e.resets × Group 4 (assignment_fits s) e.assignments
+  pub edge_groups : (e : Edge) → narrow_edge s e ≡ true → Group 4 (narrow_condition s) e.guard × Group 4 (reset_fits s) e.resets × Group 4 (narrow_assignment s) e.assignments
   edge_groups e h =
-      let f = edge_facts s e h in
-      (group_facts 4 (condition_fits s) e.guard f.guard, group_facts 4 (reset_fits s) e.resets f.resets, group_facts 4 (assignment_fits s) e.assignments f.assignments)
+      let x = and_parts (edge_fits s e) (edge_in_widths e) h in
+      let f = edge_facts s e x.0 in
+      let w = edge_widths e x.1 in (
+        narrow_group 4 (condition_fits s) condition_in_widths e.guard f.guard w.guard,
+        group_facts 4 (reset_fits s) e.resets f.resets w.resets,
+        narrow_group 4 (assignment_fits s) assignment_in_widths e.assignments f.assignments w.assignments,
+      )
 
 -- ---- the last of a list
 
@@ -91,11 +108,3 @@ module _ {X : Type 0} where
 
   pub none_push : (xs : List X) (x : X) → none (xs ++ x ∷ []) ≡ false
   none_push xs x = ne_eqb (length (xs ++ x ∷ [])) 0 (λ e. omega (arith, length_push xs x))
-
-  -- two tests over one list
-  pub each_both : (f g : X → Bool) (xs : List X) → each f xs ≡ true → each g xs ≡ true → each (λ x. f x && g x) xs ≡ true
-  each_both f g [] h k = refl
-  each_both f g (x ∷ xs) h k =
-      let p = and_parts (f x) (each f xs) h in
-      let q = and_parts (g x) (each g xs) k in
-      and_from (f x && g x) (each (λ x. f x && g x) xs) (and_from (f x) (g x) p.0 q.0) (each_both f g xs p.1 q.1)

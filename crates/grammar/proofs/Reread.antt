@@ -1,10 +1,10 @@
--- What is read is what would be written, and breaks no limit.
+-- What is read is what would be written, breaks no limit and is in its widths.
 use Rattle.std.proofs.Common.{◌≡◌, ℕ, ◌+◌, ◌<◌, Bool, true, false, cond, ◌&&◌, ltb, leb, ◌⊎◌, List, [], ◌∷◌, ◌++◌, length, Ok, Err, decimal, Result, sym, refl, ap, ◌∙◌, subst, inl, inr, arith}
 use Rattle.std.proofs.lemmas.List.{append_assoc}
 use Rattle.std.proofs.lemmas.Bool.{and_parts, and_from, leb-true}
 use Rattle.parts.specs.declared.part.Counts.{Counts}
 use Rattle.parts.specs.Limits.{counts_fit}
-use Rattle.sequence.specs.Plan.{Plan, Valid, sound}
+use Rattle.sequence.specs.Plan.{Plan, Valid}
 use Rattle.sequence.specs.Building.{begun}
 use Rattle.sequence.proofs.Sound.{Sound, sound_facts, sound_from, begun_sound}
 use Rattle.lexical.specs.declared.fault.LineFault.TheVariants.{Malformed, KeyNotAllowed}
@@ -19,10 +19,12 @@ use Rattle.lexical.specs.Fields.{on, one, count}
 use Rattle.grammar.specs.Lines.{Item, line_of, text_of}
 use Rattle.grammar.specs.Writing.{count_items, part_items, last_item, written}
 use Rattle.grammar.specs.Reading.{longest_text, key_and_value, value_place, counted, count_line, read_counts, Step, more, done, take_line, go_on, read_lines, read_all, read_text}
+use Rattle.grammar.specs.Widths.{in_widths}
 use Rattle.grammar.specs.Laws.{ReadIsWritten, ReadIsValid, ReadOrRefused}
 use Rattle.grammar.proofs.Parsing.{not_ok, on_ok, cond_ok, join_pieces, same_true, one_back, count_back}
 use Rattle.grammar.proofs.Accepting.{keyed_back, take_back}
 use Rattle.grammar.proofs.Appending.{GoesOn, leads}
+use Rattle.grammar.proofs.Narrow.{InWidths, widths_facts, widths_from, begun_widths}
 
 -- ---- the lines behind the counts
 
@@ -33,19 +35,20 @@ pub record ReadsOn (p : Plan) (ls : List (List ℕ)) (q : Plan) (rest : List (Li
   pub whole : part_items p ++ items ≡ part_items q ++ last_item q ∷ []
   pub bytes : join newline ls ≡ text_of items ++ join newline rest
   pub valid : Valid q
+  pub widths : in_widths q ≡ true
 
-pub reads_on : (ls : List (List ℕ)) (p : Plan) (n : ℕ) (q : Plan) (rest : List (List ℕ)) → Sound p → read_lines p n ls ≡ Ok (q, rest) → ReadsOn p ls q rest
-reads_on [] p n q rest s e = not_ok (Line (Malformed (place n 1))) (q, rest) e
-reads_on (l ∷ []) p n q rest s e = not_ok (Line (Malformed (place n 1))) (q, rest) e
-reads_on (l ∷ m ∷ ls) p n q rest s e = go (take_line p n l) refl (λ t. reads_on (m ∷ ls) t (n + 1) q rest) e
+pub reads_on : (ls : List (List ℕ)) (p : Plan) (n : ℕ) (q : Plan) (rest : List (List ℕ)) → Sound p → InWidths p → read_lines p n ls ≡ Ok (q, rest) → ReadsOn p ls q rest
+reads_on [] p n q rest s w e = not_ok (Line (Malformed (place n 1))) (q, rest) e
+reads_on (l ∷ []) p n q rest s w e = not_ok (Line (Malformed (place n 1))) (q, rest) e
+reads_on (l ∷ m ∷ ls) p n q rest s w e = go (take_line p n l) refl (λ t. reads_on (m ∷ ls) t (n + 1) q rest) e
   where
-    go : (r : Result Step SequenceFault) → take_line p n l ≡ r → ((t : Plan) → Sound t → read_lines t (n + 1) (m ∷ ls) ≡ Ok (q, rest) → ReadsOn t (m ∷ ls) q rest) → go_on r p (m ∷ ls) (λ t. read_lines t (n + 1) (m ∷ ls)) ≡ Ok (q, rest) → ReadsOn p (l ∷ m ∷ ls) q rest
+    go : (r : Result Step SequenceFault) → take_line p n l ≡ r → ((t : Plan) → Sound t → InWidths t → read_lines t (n + 1) (m ∷ ls) ≡ Ok (q, rest) → ReadsOn t (m ∷ ls) q rest) → go_on r p (m ∷ ls) (λ t. read_lines t (n + 1) (m ∷ ls)) ≡ Ok (q, rest) → ReadsOn p (l ∷ m ∷ ls) q rest
     go (Err f) h ih e = not_ok f (q, rest) e
     go (Ok (more t)) h ih e =
         let a = take_back p n l (more t) h in
         let i : Item = (a.key, a.fields) in
-        let b : GoesOn p i t = leads p s a.key a.at a.fields (more t) a.here a.fits a.good a.does in
-        let c = ih t (sound_facts t b.sound) e in
+        let b : GoesOn p i t = leads p s w a.key a.at a.fields (more t) a.here a.fits a.good a.does in
+        let c = ih t (sound_facts t b.sound) (widths_facts t b.widths) e in
         record {
           items = i ∷ c.items;
           counts = c.counts ∙ b.counts;
@@ -53,11 +56,12 @@ reads_on (l ∷ m ∷ ls) p n q rest s e = go (take_line p n l) refl (λ t. read
           bytes = ap (λ (x : List ℕ). x ++ (newline ∷ join newline (m ∷ ls))) a.line
               ∙ (ap (λ (x : List ℕ). line_of i ++ (newline ∷ x)) c.bytes ∙ sym (append_assoc (line_of i) (newline ∷ text_of c.items) (join newline rest)));
           valid = c.valid;
+          widths = c.widths;
         }
     go (Ok done) h ih e =
         let a = take_back p n l done h in
         let i : Item = (a.key, a.fields) in
-        let b = leads p s a.key a.at a.fields done a.here a.fits a.good a.does in
+        let b = leads p s w a.key a.at a.fields done a.here a.fits a.good a.does in
         let pair : (p, m ∷ ls) ≡ (q, rest) = cc in
         subst (λ (x : Plan × List (List ℕ)). ReadsOn p (l ∷ m ∷ ls) x.0 x.1) pair (record {
           items = i ∷ [];
@@ -65,6 +69,7 @@ reads_on (l ∷ m ∷ ls) p n q rest s e = go (take_line p n l) refl (λ t. read
           whole = ap (λ (x : Item). part_items p ++ x ∷ []) b.1;
           bytes = ap (λ (x : List ℕ). x ++ (newline ∷ join newline (m ∷ ls))) a.line ∙ sym (append_assoc (line_of i) (newline ∷ []) (join newline (m ∷ ls)));
           valid = (sound_from p s, b.0);
+          widths = widths_from p w;
         })
 
 -- ---- the counts
@@ -129,23 +134,24 @@ text_of_append : (is js : List Item) → text_of (is ++ js) ≡ text_of is ++ te
 text_of_append [] js = refl
 text_of_append (i ∷ is) js = ap (λ (x : List ℕ). line_of i ++ (newline ∷ x)) (text_of_append is js) ∙ sym (append_assoc (line_of i) (newline ∷ text_of is) (text_of js))
 
-read_all_back : (ls : List (List ℕ)) (q : Plan) (rest : List (List ℕ)) → read_all ls ≡ Ok (q, rest) → (join newline ls ≡ written q ++ join newline rest) × Valid q
+read_all_back : (ls : List (List ℕ)) (q : Plan) (rest : List (List ℕ)) → read_all ls ≡ Ok (q, rest) → (join newline ls ≡ written q ++ join newline rest) × Valid q × (in_widths q ≡ true)
 read_all_back ls q rest e =
     let a = on_ok (read_counts ls) (λ c. read_lines (begun c.0) 6 c.1) (q, rest) e in
     let c = a.0.0 in
     let w = counts_back ls c a.0.1 a.1 in
-    let r = reads_on a.0.1 (begun c) 6 q rest (sound_facts (begun c) (begun_sound c w.1)) a.2 in (
+    let r = reads_on a.0.1 (begun c) 6 q rest (sound_facts (begun c) (begun_sound c w.1)) (begun_widths c) a.2 in (
       w.0 ∙ (ap (λ (x : List ℕ). text_of (count_items c) ++ x) r.bytes
           ∙ (sym (append_assoc (text_of (count_items c)) (text_of r.items) (join newline rest))
           ∙ ap (λ (x : List ℕ). x ++ join newline rest) (sym (text_of_append (count_items c) r.items)
           ∙ (ap (λ (x : List Item). text_of (count_items c ++ x)) r.whole
           ∙ ap (λ (x : Counts). text_of (count_items x ++ (part_items q ++ last_item q ∷ []))) (sym r.counts))))),
       r.valid,
+      r.widths,
     )
 
 -- a text that is read
 abbrev Read : List ℕ → Plan × List ℕ → Type 0
-Read t x = (t ≡ written x.0 ++ x.1) × Valid x.0
+Read t x = (t ≡ written x.0 ++ x.1) × Valid x.0 × (in_widths x.0 ≡ true)
 
 -- the rest put together again
 abbrev pub rejoined : Plan × List (List ℕ) → Result (Plan × List ℕ) SequenceFault
@@ -161,13 +167,13 @@ read_back t p r e = go (ltb longest_text (length t)) e
         let w = read_all_back (pieces newline t) a.0.0 a.0.1 a.1 in
         let f = a.2 in
         let pair : (a.0.0, join newline a.0.1) ≡ (p, r) = cc in
-        subst (Read t) pair (sym (join_pieces newline t) ∙ w.0, w.1)
+        subst (Read t) pair (sym (join_pieces newline t) ∙ w.0, w.1, w.2)
 
 pub read_is_written : ReadIsWritten
 read_is_written t p r e = (read_back t p r e).0
 
 pub read_is_valid : ReadIsValid
-read_is_valid t p r e = (read_back t p r e).1
+read_is_valid t p r e = let x = read_back t p r e in (x.1, x.2)
 
 pub read_or_refused : ReadOrRefused
 read_or_refused t = (go (read_text t) refl, (λ p r e h k. not_ok e (p, r) (sym k ∙ h)))

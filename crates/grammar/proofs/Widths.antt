@@ -12,16 +12,16 @@ use Rattle.parts.specs.declared.part.Condition.TheVariants as condition
 use Rattle.parts.specs.declared.part.Task.{Task as TaskPart}
 use Rattle.parts.specs.declared.part.Location.{Location}
 use Rattle.parts.specs.declared.part.Edge.{Edge as EdgePart}
-use Rattle.parts.specs.Limits.{variable_fits, assignment_fits, reset_fits, invariant_fits, condition_fits, task_fits, location_fits, edge_fits}
+use Rattle.parts.specs.Limits.{reset_fits, invariant_fits}
 use Rattle.sequence.specs.Plan.{Plan, scope, each, ends_fit, reached, next_of, in_turn}
 use Rattle.sequence.specs.Growing.{used}
-use Rattle.sequence.proofs.Sound.{Sound, sound_facts}
 use Rattle.lexical.specs.declared.key.Key.TheVariants.{Form, Autos, Clocks, Triggers, Chans, Task, Loc, Edge}
 use Rattle.lexical.specs.Bytes.{newline}
-use Rattle.grammar.specs.Lines.{There, there, Item, line_of, text_of}
+use Rattle.grammar.specs.Lines.{There, Item, line_of, text_of}
 use Rattle.grammar.specs.Writing.{count_items, variable_item, assignment_item, invariant_item, condition_item, reset_item, task_items, location_items, edge_items, part_items, last_item}
 use Rattle.grammar.specs.Laws.{EveryTextFits}
-use Rattle.grammar.proofs.Groups.{task_group, location_group, edge_groups, each_both}
+use Rattle.grammar.proofs.Narrow.{narrow_variable, narrow_assignment, narrow_condition, narrow_task, narrow_location, narrow_edge, each_both, Narrow, narrow_facts}
+use Rattle.grammar.proofs.Groups.{task_group, location_group, edge_groups}
 use Rattle.grammar.proofs.Lining.{line_width, line_wide}
 use Rattle.grammar.proofs.Goodness.{good_item, Few, few_of, seen, good_variable, good_task, good_assignment, good_location, good_invariant, good_condition, good_reset, good_edge, ends_below}
 use Rattle.grammar.proofs.Leading.{text_append, map_joined}
@@ -55,9 +55,9 @@ turn_below n a (l ∷ ls) h k =
     let p = and_parts (next_of n l.automaton) (in_turn (l.automaton + 1) ls) h in
     and_from _ _ (lt-ltb l.automaton a (omega (arith, turn_up (l.automaton + 1) ls p.1))) (turn_below (l.automaton + 1) a ls p.1 k)
 
-module _ (p : Plan) (s : Sound p) where
+module _ (p : Plan) (s : Narrow p) where
   few : Few (scope p)
-  few = few_of (scope p) s.counts s.few_variables s.few_tasks
+  few = few_of (scope p) s.sound.counts s.sound.few_variables s.sound.few_tasks
 
   abbrev locs : ℕ
   locs = length p.locations
@@ -65,16 +65,16 @@ module _ (p : Plan) (s : Sound p) where
   abbrev n : There
   n = seen (scope p) locs
 
-  size_variable : (v : Variable) → variable_fits v ≡ true → size (variable_item v ∷ []) ≤ 25
+  size_variable : (v : Variable) → narrow_variable v ≡ true → size (variable_item v ∷ []) ≤ 25
   size_variable v h = size_more n (variable_item v) [] (good_variable n v h)
 
-  size_assignment : (a : Assignment) → assignment_fits (scope p) a ≡ true → size (assignment_item a ∷ []) ≤ 19
+  size_assignment : (a : Assignment) → narrow_assignment (scope p) a ≡ true → size (assignment_item a ∷ []) ≤ 19
   size_assignment a h = size_more n (assignment_item a) [] (good_assignment (scope p) few locs a h)
 
   size_invariant : (i : Invariant) → invariant_fits (scope p) i ≡ true → size (invariant_item i ∷ []) ≤ 22
   size_invariant i h = size_more n (invariant_item i) [] (good_invariant (scope p) few locs i h)
 
-  size_condition : (c : Condition) → condition_fits (scope p) c ≡ true → size (condition_item c ∷ []) ≤ 27
+  size_condition : (c : Condition) → narrow_condition (scope p) c ≡ true → size (condition_item c ∷ []) ≤ 27
   size_condition c h = by c (size_more n (condition_item c) [] (good_condition (scope p) few locs c h))
     where
       by : (c : Condition) → size (condition_item c ∷ []) ≤ line_width (condition_item c).0 + 0 → size (condition_item c ∷ []) ≤ 27
@@ -85,24 +85,24 @@ module _ (p : Plan) (s : Sound p) where
   size_reset : (r : Reset) → reset_fits (scope p) r ≡ true → size (reset_item r ∷ []) ≤ 9
   size_reset r h = size_more n (reset_item r) [] (good_reset (scope p) few locs r h)
 
-  size_task : (t : TaskPart) → task_fits (scope p) t ≡ true → size (task_items t) ≤ 101
+  size_task : (t : TaskPart) → narrow_task (scope p) t ≡ true → size (task_items t) ≤ 101
   size_task t h =
       let g = task_group (scope p) t h in
       let us = used t.assignments in
-      let sets = size_map assignment_item (assignment_fits (scope p)) 19 size_assignment us g.fit in
+      let sets = size_map assignment_item (narrow_assignment (scope p)) 19 size_assignment us g.fit in
       omega (arith, size_more n (Task, (t.cost, t.deadline, t.priority)) (map assignment_item us) (good_task n (scope p) t h), g.few, sets)
 
-  size_location : (l : Location) → (location_fits (scope p) l && ltb l.automaton p.counts.automata) ≡ true → size (location_items l) ≤ 56
+  size_location : (l : Location) → (narrow_location (scope p) l && ltb l.automaton p.counts.automata) ≡ true → size (location_items l) ≤ 56
   size_location l h =
-      let e = and_parts (location_fits (scope p) l) (ltb l.automaton p.counts.automata) h in
+      let e = and_parts (narrow_location (scope p) l) (ltb l.automaton p.counts.automata) h in
       let g = location_group (scope p) l e.0 in
       let us = used l.invariants in
       let invs = size_map invariant_item (invariant_fits (scope p)) 22 size_invariant us g.fit in
       omega (arith, size_more n (Loc, (l.automaton, l.task)) (map invariant_item us) (good_location (scope p) few locs l e.1 e.0), g.few, invs)
 
-  size_edge : (e : EdgePart) → (edge_fits (scope p) e && ends_fit p.locations e) ≡ true → size (edge_items e) ≤ 238
+  size_edge : (e : EdgePart) → (narrow_edge (scope p) e && ends_fit p.locations e) ≡ true → size (edge_items e) ≤ 238
   size_edge e h =
-      let x = and_parts (edge_fits (scope p) e) (ends_fit p.locations e) h in
+      let x = and_parts (narrow_edge (scope p) e) (ends_fit p.locations e) h in
       let groups = edge_groups (scope p) e x.0 in
       let gs = groups.0 in
       let rs = groups.1 in
@@ -110,14 +110,14 @@ module _ (p : Plan) (s : Sound p) where
       let ug = used e.guard in
       let ur = used e.resets in
       let ua = used e.assignments in
-      let conds = size_map condition_item (condition_fits (scope p)) 27 size_condition ug gs.fit in
+      let conds = size_map condition_item (narrow_condition (scope p)) 27 size_condition ug gs.fit in
       let resets = size_map reset_item (reset_fits (scope p)) 9 size_reset ur rs.fit in
-      let sets = size_map assignment_item (assignment_fits (scope p)) 19 size_assignment ua ts.fit in
+      let sets = size_map assignment_item (narrow_assignment (scope p)) 19 size_assignment ua ts.fit in
       let ends = ends_below p.locations e x.1 in
       let items = map condition_item ug ++ (map reset_item ur ++ map assignment_item ua) in
       omega (
         arith,
-        size_more n (Edge, (e.from, e.to, e.label)) items (good_edge (scope p) few locs e (omega (arith, s.few_locations)) ends.0 ends.1 x.0),
+        size_more n (Edge, (e.from, e.to, e.label)) items (good_edge (scope p) few locs e (omega (arith, s.sound.few_locations)) ends.0 ends.1 x.0),
         size_append (map condition_item ug) (map reset_item ur ++ map assignment_item ua),
         size_append (map reset_item ur) (map assignment_item ua),
         gs.few,
@@ -131,7 +131,7 @@ module _ (p : Plan) (s : Sound p) where
   size_counts : size (count_items p.counts) ≤ 47
   size_counts =
       let c = p.counts in
-      let h = and_parts (leb 1 c.automata) (leb c.automata 8 && (leb c.clocks 16 && (leb c.triggers 16 && leb c.channels 8))) s.counts in
+      let h = and_parts (leb 1 c.automata) (leb c.automata 8 && (leb c.clocks 16 && (leb c.triggers 16 && leb c.channels 8))) s.sound.counts in
       let q = and_parts (leb c.automata 8) (leb c.clocks 16 && (leb c.triggers 16 && leb c.channels 8)) h.1 in
       let t = and_parts (leb c.clocks 16) (leb c.triggers 16 && leb c.channels 8) q.1 in
       let u = and_parts (leb c.triggers 16) (leb c.channels 8) t.1 in
@@ -149,21 +149,21 @@ module _ (p : Plan) (s : Sound p) where
       )
 
   size_last : size (last_item p ∷ []) ≤ 10
-  size_last = size_more n (last_item p) [] (and_from (leb 0 (length p.edges)) (leb (length p.edges) 128) (le-leb 0 (length p.edges) (omega arith)) (le-leb (length p.edges) 128 s.few_edges))
+  size_last = size_more n (last_item p) [] (and_from (leb 0 (length p.edges)) (leb (length p.edges) 128) (le-leb 0 (length p.edges) (omega arith)) (le-leb (length p.edges) 128 s.sound.few_edges))
 
 pub every_text_fits : EveryTextFits
-every_text_fits p v =
-    let s = sound_facts p v.0 in
+every_text_fits p v w =
+    let s = narrow_facts p v.0 w in
     let vs = map variable_item p.variables in
     let ts = flat_map task_items p.tasks in
     let ls = flat_map location_items p.locations in
     let es = flat_map edge_items p.edges in
-    let variables = size_map variable_item variable_fits 25 (size_variable p s) p.variables s.variables in
-    let tasks = size_joined task_items (task_fits (scope p)) 101 (size_task p s) p.tasks s.tasks in
-    let there = turn_below 0 p.counts.automata p.locations s.turn s.automata in
-    let locations = size_joined location_items (λ l. location_fits (scope p) l && ltb l.automaton p.counts.automata) 56 (size_location p s) p.locations (each_both (location_fits (scope p)) (λ l. ltb l.automaton p.counts.automata) p.locations s.locations there) in
-    let both = each_both (edge_fits (scope p)) (ends_fit p.locations) p.edges s.edges s.ends in
-    let edges = size_joined edge_items (λ e. edge_fits (scope p) e && ends_fit p.locations e) 238 (size_edge p s) p.edges both in
+    let variables = size_map variable_item narrow_variable 25 (size_variable p s) p.variables s.variables in
+    let tasks = size_joined task_items (narrow_task (scope p)) 101 (size_task p s) p.tasks s.tasks in
+    let there = turn_below 0 p.counts.automata p.locations s.sound.turn s.sound.automata in
+    let locations = size_joined location_items (λ l. narrow_location (scope p) l && ltb l.automaton p.counts.automata) 56 (size_location p s) p.locations (each_both (narrow_location (scope p)) (λ l. ltb l.automaton p.counts.automata) p.locations s.locations there) in
+    let both = each_both (narrow_edge (scope p)) (ends_fit p.locations) p.edges s.edges s.sound.ends in
+    let edges = size_joined edge_items (λ e. narrow_edge (scope p) e && ends_fit p.locations e) 238 (size_edge p s) p.edges both in
     omega (
       arith,
       size_append (count_items p.counts) (part_items p ++ (last_item p ∷ [])),
@@ -177,8 +177,8 @@ every_text_fits p v =
       tasks,
       locations,
       edges,
-      s.few_variables,
-      s.few_tasks,
-      s.few_locations,
-      s.few_edges,
+      s.sound.few_variables,
+      s.sound.few_tasks,
+      s.sound.few_locations,
+      s.sound.few_edges,
     )

@@ -3,7 +3,6 @@ use Rattle.std.specs.Prelude.{ℕ, ◌+◌, Bool, true, false, cond, ◌&&◌, �
 use Rattle.parts.specs.declared.part.Counts.{Counts}
 use Rattle.parts.specs.declared.part.Variable.{Variable}
 use Rattle.parts.specs.declared.part.Assignment.{Assignment}
-use Rattle.parts.specs.declared.part.Reset.{Reset}
 use Rattle.parts.specs.declared.part.Invariant.{Invariant}
 use Rattle.parts.specs.declared.part.Condition.{Condition}
 use Rattle.parts.specs.declared.part.Condition.TheVariants as condition

@@ -1,5 +1,6 @@
 // The grammar of sequence text: its definitions, and the laws of reading and writing.
 #![tactic(auto)]
+
 ghost use Rattle.grammar.specs.Laws.{ReadIsWritten, ReadIsValid, WrittenIsRead, EveryTextFits, OneSequenceToAText, ReadOrRefused, RefusedIsNoSequence, FaultsLieInTheText};
 
 pub mod stage;

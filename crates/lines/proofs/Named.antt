@@ -1,5 +1,7 @@
 -- Bytes name a key where they are that key's bytes.
-use Rattle.std.proofs.Common.{◌≡◌, ℕ, Bool, true, false, cond, List, Some, None, sym, refl, ap, ◌∙◌, arith}
+use Rattle.std.proofs.Common.{◌≡◌, ℕ, Bool, true, false, List, Some, None, sym, refl, ap, ◌∙◌, arith}
+use denote.Enum.Bare.{sameb, same_true as same_key, same_false as other_key}
+use Rattle.lexical.specs.contracts.key.Key.{the_type}
 use Rattle.lexical.specs.declared.key.Key.{Key}
 use Rattle.lexical.specs.Bytes.{same}
 use Rattle.lexical.specs.Keys.{key_bytes, key_named}
@@ -14,9 +16,9 @@ not_same bs k n = go (same bs (key_bytes k)) refl
     go true s = absurd (n (ap key_named (same_true bs (key_bytes k) s) ∙ key_known k))
     go false s = refl
 
-pub named : (bs : List ℕ) (x k : Key) (r : Bool) → Some x ≡ key_named bs → cond {A = Type 0} r (x ≡ k) (x ≡ k → ⊥) → r ≡ same bs (key_bytes k)
-named bs x k true e h = sym (ap (λ b. same b (key_bytes k)) (key_back bs x (sym e) ∙ ap key_bytes h) ∙ same_self (key_bytes k))
-named bs x k false e h = sym (not_same bs k (λ i. h (some_same (e ∙ i))))
+pub named : (bs : List ℕ) (x k : Key) (r : Bool) → Some x ≡ key_named bs → r ≡ sameb the_type x k → r ≡ same bs (key_bytes k)
+named bs x k true e h = sym (ap (λ b. same b (key_bytes k)) (key_back bs x (sym e) ∙ ap key_bytes (same_key the_type tt x k (sym h))) ∙ same_self (key_bytes k))
+named bs x k false e h = sym (not_same bs k (λ i. other_key the_type x k (sym h) (some_same (e ∙ i))))
   where
     some_same : Some x ≡ Some k → x ≡ k
     some_same e = cc

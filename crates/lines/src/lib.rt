@@ -1,5 +1,6 @@
 // The lines of a sequence text, each read into the part that it says.
 #![tactic(auto)]
+
 pub mod condition;
 pub mod counts;
 pub mod edge;

@@ -7,15 +7,15 @@ use Rattle.parts.specs.declared.part.Task.{Task as TaskPart}
 use Rattle.parts.specs.declared.part.Location.{Location}
 use Rattle.parts.specs.declared.part.Edge.{Edge as EdgePart}
 use Rattle.parts.specs.declared.part.Rule.TheVariants.{BadAutomaton, BadEnds}
-use Rattle.parts.specs.Limits.{last_tick, longest, assignment_fits, invariant_fits, condition_fits, task_fits, location_fits, edge_fits}
+use Rattle.parts.specs.Limits.{last_tick, assignment_fits, invariant_fits, condition_fits, location_fits, edge_fits}
 use Rattle.sequence.specs.Plan.{Plan, scope, ends_fit}
 use Rattle.sequence.specs.Building.{none, next_automaton, with_variable, with_task, with_location, with_edge, add_variable, add_task, add_location, add_edge}
 use Rattle.sequence.specs.Growing.{last_of, has_room, assigning_task, limited, guarded, resetting, assigning_edge, with_last_task, with_last_location, with_last_edge, add_task_assignment, add_invariant, add_condition, add_reset, add_edge_assignment}
 use Rattle.sequence.proofs.Filling.{none_there, task_grown, location_grown, guard_grown, resets_grown, edge_grown}
 use Rattle.sequence.proofs.Sound.{Sound}
 use Rattle.lexical.specs.declared.key.Key.TheVariants.{Var, Task, Set, Loc, Inv, Edge, Clk, Zero}
-use Rattle.lexical.specs.Fields.{integer, count, reference, optional, label}
-use Rattle.grammar.specs.Lines.{Fields, lowest, highest, row, there}
+use Rattle.lexical.specs.Fields.{count, reference, optional, label}
+use Rattle.grammar.specs.Lines.{Fields, row, there}
 use Rattle.grammar.specs.Reading.{stage_of, stage_rank, allowed, room_of, room, variable_of, task_of, assignment_of, location_of, invariant_of, edge_of, with_assignment}
 use Rattle.reader.specs.Taking.{add_assignment}
 use Rattle.grammar.proofs.Parsing.{never}

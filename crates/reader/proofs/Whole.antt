@@ -18,6 +18,7 @@ use Rattle.sequence.proofs.Sound.{sound_facts, begun_sound}
 use Rattle.grammar.specs.Lines.{text_of}
 use Rattle.grammar.specs.Writing.{count_items}
 use Rattle.grammar.specs.Reading.{read_counts, read_lines, read_all, read_text, longest_text}
+use Rattle.grammar.proofs.Narrow.{begun_widths}
 use Rattle.grammar.proofs.Reread.{rejoined, reads_on, counts_back, read_is_written}
 use Rattle.reader.specs.Outcomes.{Reads}
 
@@ -75,7 +76,7 @@ module _ (t : List ℕ) where
           pub all_there : complete q ≡ true
           all_there =
               let k : read_lines (begun c) 6 (pieces newline l) ≡ Ok (q, pieces newline rest) = ap (λ x. read_lines x 6 (pieces newline l)) b ∙ k in
-              (reads_on (pieces newline l) (begun c) 6 q (pieces newline rest) (sound_facts (begun c) (begun_sound c fit)) k).valid.1
+              (reads_on (pieces newline l) (begun c) 6 q (pieces newline rest) (sound_facts (begun c) (begun_sound c fit)) (begun_widths c) k).valid.1
 
           pub never_unfinished : complete q ≡ false → ⊥
           never_unfinished h = let i = all_there in let z : ◌≡◌ {A = Bool} true false = cc in let y : ◌≡◌ {A = ℕ} 0 1 = cc in omega arith

@@ -1,5 +1,6 @@
 // Reading sequence text into memory that the caller lends.
 #![tactic(auto)]
+
 ghost use Rattle.std.specs.Result.{MatchResult};
 ghost use Rattle.sequence.specs.Whole.{plan};
 ghost use Rattle.reader.specs.Outcomes.{Reads, Refuses};

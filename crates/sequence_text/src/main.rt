@@ -1,5 +1,6 @@
 // Reads a sequence text from standard input, prints what it holds and writes it back, or prints the refusal.
 #![tactic(auto)]
+
 use lexical::fault::Report;
 use reader::read_sequence;
 use sequence::memory::Memory;

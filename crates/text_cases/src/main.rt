@@ -1,6 +1,7 @@
 // Reads sequence texts, one to a line of standard input, and prints for each how many of its bytes are a sequence, or the refusal.
 // In a line `/` stands for a newline and `%` with two digits from 0 to f for a byte.
 #![tactic(auto)]
+
 use lexical::fault::Report;
 use reader::read_sequence;
 use sequence::memory::Memory;

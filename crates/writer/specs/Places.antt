@@ -1,5 +1,5 @@
 -- The lines of a place of a group.
-use Rattle.std.specs.Prelude.{List, [], ◌∷◌, Some, None, Option}
+use Rattle.std.specs.Prelude.{List, [], Some, None, Option}
 use Rattle.grammar.specs.Lines.{Item}
 
 -- a free place has no line

@@ -10,4 +10,4 @@ pub returns : goal.returns
 returns g c =
     let k : SFits w32 c.args.k = c.ranges.k in
     gives_as (four_pieces (codes "dif=") (decimal c.args.first) (decimal c.args.second) (relation_word c.args.relation) (signed_decimal c.args.k))
-    (gives_then c.put.ensures (gives_then c.put-natural.ensures (gives_then c.put-2.ensures (gives_then c.put-natural-2.ensures (gives_then c.put-3.ensures (gives_then c.put-relation.ensures (gives_then c.put-4.ensures (gives_then (simp to_z-of_z at c.put-integer.ensures) c.put-5.ensures))))))))
+    (gives_then c.put.ensures (gives_then c.put_natural.ensures (gives_then c.put-2.ensures (gives_then c.put_natural-2.ensures (gives_then c.put-3.ensures (gives_then c.put_relation.ensures (gives_then c.put-4.ensures (gives_then (simp to_z-of_z at c.put_integer.ensures) c.put-5.ensures))))))))

@@ -1,4 +1,4 @@
-use Rattle.std.proofs.Common.{arith, w16, w32, SFits, rules}
+use Rattle.std.proofs.Common.{w16, w32, SFits, rules}
 use Rattle.std.proofs.lemmas.Int.{to_z-of_z}
 use Rattle.writer.proofs.put_value.Goals as goal
 
@@ -6,4 +6,4 @@ pub returns : goal.returns
 returns g c =
     let narrow : SFits w16 c.args.z = c.ranges.z in
     let wide : SFits w32 c.args.z = search rules in
-    simp to_z-of_z at c.put-integer.ensures
+    simp to_z-of_z at c.put_integer.ensures

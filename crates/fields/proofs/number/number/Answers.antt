@@ -15,4 +15,4 @@ minus_in_front r [] h e = absurd (omega arith)
 minus_in_front r (b ∷ bs) h e = subst (λ (c : ℕ). Says r (c ∷ bs)) (sym h) (subst (Below r) (take_rest (b ∷ bs) 1) e)
 
 pub returns-in-45 : goal.returns-in-45
-returns-in-45 c = minus_in_front c.below-zero.result c.args.text.now (search rules) c.below-zero.ensures
+returns-in-45 c = minus_in_front c.below_zero.result c.args.text.now (search rules) c.below_zero.ensures

@@ -18,35 +18,35 @@ in_front (x ∷ xs) b h l = ap (λ (y : ℕ). y ∷ xs) h ∙ ap (λ (ys : List 
 by_letter : (triggers channels : ℕ) (at : Place) (word : List ℕ) (b : ℕ) (r : Result Label SequenceFault) → get_or word 0 0 ≡ b → 0 < b → r ≡ lettered triggers channels at (b ∷ behind word) → r ≡ lettered triggers channels at word
 by_letter triggers channels at word b r h l e = e ∙ ap (lettered triggers channels at) (sym (in_front word b h l))
 
-pub returns-in-err-reference : goal.returns-in-err-reference
-returns-in-err-reference c =
-    let p = err_from_is_err_and c.from-residual.result c.from-residual.ensures.1 in
-    rw (p.1, p.2) (by_letter c.args.triggers c.args.channels c.args.at c.args.word.now 116 (Err c.in-err-reference.field-0.0) c.in-116.is (omega arith)
-    (ap (labelled Trigger) (c.in-err-reference.ensures (behind c.args.word.now) c.args.at.column c.token-of-number.ensures)))
+pub returns-in_err-reference-in-116 : goal.returns-in_err-reference-in-116
+returns-in_err-reference-in-116 c =
+    let p = err_from_is_err_and c.from_residual.result c.from_residual.ensures.1 in
+    rw (p.1, p.2) (by_letter c.args.triggers c.args.channels c.args.at c.args.word.now 116 (Err c.in_err-reference-in-116.field-0.0) c.in-116.is (omega arith)
+    (ap (labelled Trigger) (c.in_err-reference-in-116.ensures (behind c.args.word.now) c.args.at.column c.token_of-number.ensures)))
 
-pub returns-in-ok-reference : goal.returns-in-ok-reference
-returns-in-ok-reference c =
-    by_letter c.args.triggers c.args.channels c.args.at c.args.word.now 116 (Ok (Trigger c.in-ok-reference.field-0)) c.in-116.is (omega arith)
-    (ap (labelled Trigger) (c.in-ok-reference.ensures (behind c.args.word.now) c.args.at.column c.token-of-number.ensures))
+pub returns-in_ok-reference-in-116 : goal.returns-in_ok-reference-in-116
+returns-in_ok-reference-in-116 c =
+    by_letter c.args.triggers c.args.channels c.args.at c.args.word.now 116 (Ok (Trigger c.in_ok-reference-in-116.field-0)) c.in-116.is (omega arith)
+    (ap (labelled Trigger) (c.in_ok-reference-in-116.ensures (behind c.args.word.now) c.args.at.column c.token_of-number.ensures))
 
-pub returns-in-err-reference-2 : goal.returns-in-err-reference-2
-returns-in-err-reference-2 c =
-    let p = err_from_is_err_and c.from-residual-in-err-reference-2.result c.from-residual-in-err-reference-2.ensures.1 in
-    rw (p.1, p.2) (by_letter c.args.triggers c.args.channels c.args.at c.args.word.now 115 (Err c.in-err-reference-2.field-0.0) c.in-115.is (omega arith)
-    (ap (labelled Send) (c.in-err-reference-2.ensures (behind c.args.word.now) c.args.at.column c.token-of-number.ensures)))
+pub returns-in_err-reference-in-115 : goal.returns-in_err-reference-in-115
+returns-in_err-reference-in-115 c =
+    let p = err_from_is_err_and c.from_residual-in_err-reference-in-115.result c.from_residual-in_err-reference-in-115.ensures.1 in
+    rw (p.1, p.2) (by_letter c.args.triggers c.args.channels c.args.at c.args.word.now 115 (Err c.in_err-reference-in-115.field-0.0) c.in-115.is (omega arith)
+    (ap (labelled Send) (c.in_err-reference-in-115.ensures (behind c.args.word.now) c.args.at.column c.token_of-number.ensures)))
 
-pub returns-in-ok-reference-2 : goal.returns-in-ok-reference-2
-returns-in-ok-reference-2 c =
-    by_letter c.args.triggers c.args.channels c.args.at c.args.word.now 115 (Ok (Send c.in-ok-reference-2.field-0)) c.in-115.is (omega arith)
-    (ap (labelled Send) (c.in-ok-reference-2.ensures (behind c.args.word.now) c.args.at.column c.token-of-number.ensures))
+pub returns-in_ok-reference-in-115 : goal.returns-in_ok-reference-in-115
+returns-in_ok-reference-in-115 c =
+    by_letter c.args.triggers c.args.channels c.args.at c.args.word.now 115 (Ok (Send c.in_ok-reference-in-115.field-0)) c.in-115.is (omega arith)
+    (ap (labelled Send) (c.in_ok-reference-in-115.ensures (behind c.args.word.now) c.args.at.column c.token_of-number.ensures))
 
-pub returns-in-err-reference-3 : goal.returns-in-err-reference-3
-returns-in-err-reference-3 c =
-    let p = err_from_is_err_and c.from-residual-in-err-reference-3.result c.from-residual-in-err-reference-3.ensures.1 in
-    rw (p.1, p.2) (by_letter c.args.triggers c.args.channels c.args.at c.args.word.now 114 (Err c.in-err-reference-3.field-0.0) c.in-114.is (omega arith)
-    (ap (labelled Receive) (c.in-err-reference-3.ensures (behind c.args.word.now) c.args.at.column c.token-of-number.ensures)))
+pub returns-in_err-reference-in-114 : goal.returns-in_err-reference-in-114
+returns-in_err-reference-in-114 c =
+    let p = err_from_is_err_and c.from_residual-in_err-reference-in-114.result c.from_residual-in_err-reference-in-114.ensures.1 in
+    rw (p.1, p.2) (by_letter c.args.triggers c.args.channels c.args.at c.args.word.now 114 (Err c.in_err-reference-in-114.field-0.0) c.in-114.is (omega arith)
+    (ap (labelled Receive) (c.in_err-reference-in-114.ensures (behind c.args.word.now) c.args.at.column c.token_of-number.ensures)))
 
-pub returns-in-ok-reference-3 : goal.returns-in-ok-reference-3
-returns-in-ok-reference-3 c =
-    by_letter c.args.triggers c.args.channels c.args.at c.args.word.now 114 (Ok (Receive c.in-ok-reference-3.field-0)) c.in-114.is (omega arith)
-    (ap (labelled Receive) (c.in-ok-reference-3.ensures (behind c.args.word.now) c.args.at.column c.token-of-number.ensures))
+pub returns-in_ok-reference-in-114 : goal.returns-in_ok-reference-in-114
+returns-in_ok-reference-in-114 c =
+    by_letter c.args.triggers c.args.channels c.args.at c.args.word.now 114 (Ok (Receive c.in_ok-reference-in-114.field-0)) c.in-114.is (omega arith)
+    (ap (labelled Receive) (c.in_ok-reference-in-114.ensures (behind c.args.word.now) c.args.at.column c.token_of-number.ensures))

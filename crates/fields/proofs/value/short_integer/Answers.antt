@@ -19,9 +19,9 @@ pub returns : goal.returns
 returns c = λ field column h.
     let low = c.args.low in
     let high = c.args.high in
-    let w = c.in-ok-z.ensures.within in
+    let w = c.in_ok-z.ensures.within in
     let l : wide low ≡ low = widened low c.ranges.low in
     let g : wide high ≡ high = widened high c.ranges.high in
-    let n = narrowed low high c.in-ok-z.z c.ranges.low c.ranges.high (rw l at w.0) (rw g at w.1) in
-    ap Ok n ∙ (c.in-ok-z.ensures.read field column h
+    let n = narrowed low high c.in_ok-z.z c.ranges.low c.ranges.high (rw l at w.0) (rw g at w.1) in
+    ap Ok n ∙ (c.in_ok-z.ensures.read field column h
     ∙ (ap (λ (x : ℤ). integer_of x (wide high) (place c.args.line column) field) l ∙ ap (λ (x : ℤ). integer_of low x (place c.args.line column) field) g))

@@ -7,29 +7,29 @@ use Rattle.grammar.specs.Reading.{clock_condition}
 use Rattle.lines.proofs.Rows.{gone, three_first, three_second, three_third}
 use Rattle.lines.proofs.condition.clock_line.Goals as goal
 
-pub returns-in-err-clock : goal.returns-in-err-clock
-returns-in-err-clock c =
-    let f = c.in-ok-x.ensures in
-    gone c.from-residual-in-err-clock.result _ c.from-residual-in-err-clock.ensures.1
-    (three_first (reference c.args.present.clocks) (λ v. relation) (λ v r. count 0 last_tick) clock_condition c.args.at f (Err c.in-err-clock.field-0.0)
-    (c.in-err-clock.ensures f.x c.args.at.column f.first))
+pub returns-in_err-clock : goal.returns-in_err-clock
+returns-in_err-clock c =
+    let f = c.in_ok-x.ensures in
+    gone c.from_residual-in_err-clock.result _ c.from_residual-in_err-clock.ensures.1
+    (three_first (reference c.args.present.clocks) (λ v. relation) (λ v r. count 0 last_tick) clock_condition c.args.at f (Err c.in_err-clock.field-0.0)
+    (c.in_err-clock.ensures f.x c.args.at.column f.first))
 
-pub returns-in-err-relation : goal.returns-in-err-relation
-returns-in-err-relation c =
-    let f = c.in-ok-x.ensures in
-    gone c.from-residual-in-err-relation.result _ c.from-residual-in-err-relation.ensures.1
-    (three_second (reference c.args.present.clocks) (λ v. relation) (λ v r. count 0 last_tick) clock_condition c.args.at f c.in-ok-clock.clock (Err c.in-err-relation.field-0.0)
-    (c.in-ok-clock.ensures f.x c.args.at.column f.first) (c.in-err-relation.ensures f.y (behind c.args.at f.x).column f.second))
+pub returns-in_err-relation : goal.returns-in_err-relation
+returns-in_err-relation c =
+    let f = c.in_ok-x.ensures in
+    gone c.from_residual-in_err-relation.result _ c.from_residual-in_err-relation.ensures.1
+    (three_second (reference c.args.present.clocks) (λ v. relation) (λ v r. count 0 last_tick) clock_condition c.args.at f c.in_ok-clock.clock (Err c.in_err-relation.field-0.0)
+    (c.in_ok-clock.ensures f.x c.args.at.column f.first) (c.in_err-relation.ensures f.y (behind c.args.at f.x).column f.second))
 
-pub returns-in-err-constant : goal.returns-in-err-constant
-returns-in-err-constant c =
-    let f = c.in-ok-x.ensures in
-    gone c.from-residual-in-err-constant.result _ c.from-residual-in-err-constant.ensures.1
-    (three_third (reference c.args.present.clocks) (λ v. relation) (λ v r. count 0 last_tick) clock_condition c.args.at f c.in-ok-clock.clock c.in-ok-relation.relation (Err (Line (Number c.in-err-constant.field-0.0)))
-    (c.in-ok-clock.ensures f.x c.args.at.column f.first) (c.in-ok-relation.ensures f.y (behind c.args.at f.x).column f.second) (ap numeral (c.in-err-constant.ensures.read f.z (behind (behind c.args.at f.x) f.y).column f.third)))
+pub returns-in_err-constant : goal.returns-in_err-constant
+returns-in_err-constant c =
+    let f = c.in_ok-x.ensures in
+    gone c.from_residual-in_err-constant.result _ c.from_residual-in_err-constant.ensures.1
+    (three_third (reference c.args.present.clocks) (λ v. relation) (λ v r. count 0 last_tick) clock_condition c.args.at f c.in_ok-clock.clock c.in_ok-relation.relation (Err (Line (Number c.in_err-constant.field-0.0)))
+    (c.in_ok-clock.ensures f.x c.args.at.column f.first) (c.in_ok-relation.ensures f.y (behind c.args.at f.x).column f.second) (ap numeral (c.in_err-constant.ensures.read f.z (behind (behind c.args.at f.x) f.y).column f.third)))
 
 pub returns : goal.returns
 returns c =
-    let f = c.in-ok-x.ensures in
-    three_third (reference c.args.present.clocks) (λ v. relation) (λ v r. count 0 last_tick) clock_condition c.args.at f c.in-ok-clock.clock c.in-ok-relation.relation (Ok c.in-ok-constant.constant)
-    (c.in-ok-clock.ensures f.x c.args.at.column f.first) (c.in-ok-relation.ensures f.y (behind c.args.at f.x).column f.second) (ap numeral (c.in-ok-constant.ensures.read f.z (behind (behind c.args.at f.x) f.y).column f.third))
+    let f = c.in_ok-x.ensures in
+    three_third (reference c.args.present.clocks) (λ v. relation) (λ v r. count 0 last_tick) clock_condition c.args.at f c.in_ok-clock.clock c.in_ok-relation.relation (Ok c.in_ok-constant.constant)
+    (c.in_ok-clock.ensures f.x c.args.at.column f.first) (c.in_ok-relation.ensures f.y (behind c.args.at f.x).column f.second) (ap numeral (c.in_ok-constant.ensures.read f.z (behind (behind c.args.at f.x) f.y).column f.third))

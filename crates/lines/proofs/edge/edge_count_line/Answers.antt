@@ -6,15 +6,15 @@ use Rattle.lines.specs.Values.{edge_count_of}
 use Rattle.lines.proofs.Rows.{gone, one_only}
 use Rattle.lines.proofs.edge.edge_count_line.Goals as goal
 
-pub returns-in-err-count : goal.returns-in-err-count
-returns-in-err-count c =
-    let f = c.in-ok-x.ensures in
-    gone c.from-residual-in-err-count.result _ c.from-residual-in-err-count.ensures.1
-    (one_only (count 0 128) edge_count_of c.args.at f (Err (Line (Number c.in-err-count.field-0.0)))
-    (ap numeral (c.in-err-count.ensures.read f.x c.args.at.column f.first)))
+pub returns-in_err-count : goal.returns-in_err-count
+returns-in_err-count c =
+    let f = c.in_ok-x.ensures in
+    gone c.from_residual-in_err-count.result _ c.from_residual-in_err-count.ensures.1
+    (one_only (count 0 128) edge_count_of c.args.at f (Err (Line (Number c.in_err-count.field-0.0)))
+    (ap numeral (c.in_err-count.ensures.read f.x c.args.at.column f.first)))
 
 pub returns : goal.returns
 returns c =
-    let f = c.in-ok-x.ensures in
-    one_only (count 0 128) edge_count_of c.args.at f (Ok c.in-ok-count.count)
-    (ap numeral (c.in-ok-count.ensures.read f.x c.args.at.column f.first))
+    let f = c.in_ok-x.ensures in
+    one_only (count 0 128) edge_count_of c.args.at f (Ok c.in_ok-count.count)
+    (ap numeral (c.in_ok-count.ensures.read f.x c.args.at.column f.first))

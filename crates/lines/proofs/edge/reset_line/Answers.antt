@@ -4,15 +4,15 @@ use Rattle.lines.specs.Values.{reset_of}
 use Rattle.lines.proofs.Rows.{gone, one_only}
 use Rattle.lines.proofs.edge.reset_line.Goals as goal
 
-pub returns-in-err-clock : goal.returns-in-err-clock
-returns-in-err-clock c =
-    let f = c.in-ok-x.ensures in
-    gone c.from-residual-in-err-clock.result _ c.from-residual-in-err-clock.ensures.1
-    (one_only (reference c.args.present.clocks) reset_of c.args.at f (Err c.in-err-clock.field-0.0)
-    (c.in-err-clock.ensures f.x c.args.at.column f.first))
+pub returns-in_err-clock : goal.returns-in_err-clock
+returns-in_err-clock c =
+    let f = c.in_ok-x.ensures in
+    gone c.from_residual-in_err-clock.result _ c.from_residual-in_err-clock.ensures.1
+    (one_only (reference c.args.present.clocks) reset_of c.args.at f (Err c.in_err-clock.field-0.0)
+    (c.in_err-clock.ensures f.x c.args.at.column f.first))
 
 pub returns : goal.returns
 returns c =
-    let f = c.in-ok-x.ensures in
-    one_only (reference c.args.present.clocks) reset_of c.args.at f (Ok c.in-ok-clock.clock)
-    (c.in-ok-clock.ensures f.x c.args.at.column f.first)
+    let f = c.in_ok-x.ensures in
+    one_only (reference c.args.present.clocks) reset_of c.args.at f (Ok c.in_ok-clock.clock)
+    (c.in_ok-clock.ensures f.x c.args.at.column f.first)

@@ -7,29 +7,29 @@ use Rattle.grammar.specs.Reading.{task_of}
 use Rattle.lines.proofs.Rows.{gone, three_first, three_second, three_third}
 use Rattle.lines.proofs.task.task_line.Goals as goal
 
-pub returns-in-err-cost : goal.returns-in-err-cost
-returns-in-err-cost c =
-    let f = c.in-ok-x.ensures in
-    gone c.from-residual-in-err-cost.result _ c.from-residual-in-err-cost.ensures.1
-    (three_first (count 1 longest) (λ c. count c longest) (λ c d. count 0 255) task_of c.args.at f (Err (Line (Number c.in-err-cost.field-0.0)))
-    (ap numeral (c.in-err-cost.ensures.read f.x c.args.at.column f.first)))
+pub returns-in_err-cost : goal.returns-in_err-cost
+returns-in_err-cost c =
+    let f = c.in_ok-x.ensures in
+    gone c.from_residual-in_err-cost.result _ c.from_residual-in_err-cost.ensures.1
+    (three_first (count 1 longest) (λ c. count c longest) (λ c d. count 0 255) task_of c.args.at f (Err (Line (Number c.in_err-cost.field-0.0)))
+    (ap numeral (c.in_err-cost.ensures.read f.x c.args.at.column f.first)))
 
-pub returns-in-err-deadline : goal.returns-in-err-deadline
-returns-in-err-deadline c =
-    let f = c.in-ok-x.ensures in
-    gone c.from-residual-in-err-deadline.result _ c.from-residual-in-err-deadline.ensures.1
-    (three_second (count 1 longest) (λ c. count c longest) (λ c d. count 0 255) task_of c.args.at f c.in-ok-cost.cost (Err (Line (Number c.in-err-deadline.field-0.0)))
-    (ap numeral (c.in-ok-cost.ensures.read f.x c.args.at.column f.first)) (ap numeral (c.in-err-deadline.ensures.read f.y (behind c.args.at f.x).column f.second)))
+pub returns-in_err-deadline : goal.returns-in_err-deadline
+returns-in_err-deadline c =
+    let f = c.in_ok-x.ensures in
+    gone c.from_residual-in_err-deadline.result _ c.from_residual-in_err-deadline.ensures.1
+    (three_second (count 1 longest) (λ c. count c longest) (λ c d. count 0 255) task_of c.args.at f c.in_ok-cost.cost (Err (Line (Number c.in_err-deadline.field-0.0)))
+    (ap numeral (c.in_ok-cost.ensures.read f.x c.args.at.column f.first)) (ap numeral (c.in_err-deadline.ensures.read f.y (behind c.args.at f.x).column f.second)))
 
-pub returns-in-err-priority : goal.returns-in-err-priority
-returns-in-err-priority c =
-    let f = c.in-ok-x.ensures in
-    gone c.from-residual-in-err-priority.result _ c.from-residual-in-err-priority.ensures.1
-    (three_third (count 1 longest) (λ c. count c longest) (λ c d. count 0 255) task_of c.args.at f c.in-ok-cost.cost c.in-ok-deadline.deadline (Err (Line (Number c.in-err-priority.field-0.0)))
-    (ap numeral (c.in-ok-cost.ensures.read f.x c.args.at.column f.first)) (ap numeral (c.in-ok-deadline.ensures.read f.y (behind c.args.at f.x).column f.second)) (ap numeral (c.in-err-priority.ensures.read f.z (behind (behind c.args.at f.x) f.y).column f.third)))
+pub returns-in_err-priority : goal.returns-in_err-priority
+returns-in_err-priority c =
+    let f = c.in_ok-x.ensures in
+    gone c.from_residual-in_err-priority.result _ c.from_residual-in_err-priority.ensures.1
+    (three_third (count 1 longest) (λ c. count c longest) (λ c d. count 0 255) task_of c.args.at f c.in_ok-cost.cost c.in_ok-deadline.deadline (Err (Line (Number c.in_err-priority.field-0.0)))
+    (ap numeral (c.in_ok-cost.ensures.read f.x c.args.at.column f.first)) (ap numeral (c.in_ok-deadline.ensures.read f.y (behind c.args.at f.x).column f.second)) (ap numeral (c.in_err-priority.ensures.read f.z (behind (behind c.args.at f.x) f.y).column f.third)))
 
 pub returns : goal.returns
 returns c =
-    let f = c.in-ok-x.ensures in
-    three_third (count 1 longest) (λ c. count c longest) (λ c d. count 0 255) task_of c.args.at f c.in-ok-cost.cost c.in-ok-deadline.deadline (Ok c.in-ok-priority.priority)
-    (ap numeral (c.in-ok-cost.ensures.read f.x c.args.at.column f.first)) (ap numeral (c.in-ok-deadline.ensures.read f.y (behind c.args.at f.x).column f.second)) (ap numeral (c.in-ok-priority.ensures.read f.z (behind (behind c.args.at f.x) f.y).column f.third))
+    let f = c.in_ok-x.ensures in
+    three_third (count 1 longest) (λ c. count c longest) (λ c d. count 0 255) task_of c.args.at f c.in_ok-cost.cost c.in_ok-deadline.deadline (Ok c.in_ok-priority.priority)
+    (ap numeral (c.in_ok-cost.ensures.read f.x c.args.at.column f.first)) (ap numeral (c.in_ok-deadline.ensures.read f.y (behind c.args.at f.x).column f.second)) (ap numeral (c.in_ok-priority.ensures.read f.z (behind (behind c.args.at f.x) f.y).column f.third))

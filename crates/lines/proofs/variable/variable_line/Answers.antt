@@ -26,46 +26,46 @@ all_three : (low high start : ℤ) → SFits w16 low → SFits w16 high → SFit
     ◌≡◌ {A = Result Variable SequenceFault} (Ok (variable_of (passed low, passed high, passed start))) (Ok (variable_of (low, high, start)))
 all_three low high start f g h = rw (to_z-of_z w16 low f, to_z-of_z w16 high g, to_z-of_z w16 start h)
 
-pub returns-in-err-low : goal.returns-in-err-low
-returns-in-err-low c =
-    let f = c.in-ok-x.ensures in
-    gone c.from-residual-in-err-low.result _ c.from-residual-in-err-low.ensures.1
-    (three_first (integer lowest highest) (λ low. integer low highest) (λ low high. integer low high) variable_of c.args.at f (Err (Line (Number c.in-err-low.field-0.0))) (ap numeral (c.in-err-low.ensures f.x c.args.at.column f.first)))
+pub returns-in_err-low : goal.returns-in_err-low
+returns-in_err-low c =
+    let f = c.in_ok-x.ensures in
+    gone c.from_residual-in_err-low.result _ c.from_residual-in_err-low.ensures.1
+    (three_first (integer lowest highest) (λ low. integer low highest) (λ low high. integer low high) variable_of c.args.at f (Err (Line (Number c.in_err-low.field-0.0))) (ap numeral (c.in_err-low.ensures f.x c.args.at.column f.first)))
 
-pub returns-in-err-high : goal.returns-in-err-high
-returns-in-err-high c =
-    let f = c.in-ok-x.ensures in
-    let low = c.in-ok-low.low in
+pub returns-in_err-high : goal.returns-in_err-high
+returns-in_err-high c =
+    let f = c.in_ok-x.ensures in
+    let low = c.in_ok-low.low in
     let fl : SFits w16 low = search rules in
-    gone c.from-residual-in-err-high.result _ c.from-residual-in-err-high.ensures.1
-    (three_second (integer lowest highest) (λ low. integer low highest) (λ low high. integer low high) variable_of c.args.at f low (Err (Line (Number c.in-err-high.field-0.0)))
-    (ap numeral (c.in-ok-low.ensures f.x c.args.at.column f.first))
-    (ap numeral (c.in-err-high.ensures f.y (behind c.args.at f.x).column f.second ∙ lower low fl (behind c.args.at f.x) f.y)))
+    gone c.from_residual-in_err-high.result _ c.from_residual-in_err-high.ensures.1
+    (three_second (integer lowest highest) (λ low. integer low highest) (λ low high. integer low high) variable_of c.args.at f low (Err (Line (Number c.in_err-high.field-0.0)))
+    (ap numeral (c.in_ok-low.ensures f.x c.args.at.column f.first))
+    (ap numeral (c.in_err-high.ensures f.y (behind c.args.at f.x).column f.second ∙ lower low fl (behind c.args.at f.x) f.y)))
 
-pub returns-in-err-start : goal.returns-in-err-start
-returns-in-err-start c =
-    let f = c.in-ok-x.ensures in
-    let low = c.in-ok-low.low in
-    let high = c.in-ok-high.high in
+pub returns-in_err-start : goal.returns-in_err-start
+returns-in_err-start c =
+    let f = c.in_ok-x.ensures in
+    let low = c.in_ok-low.low in
+    let high = c.in_ok-high.high in
     let fl : SFits w16 low = search rules in
     let fh : SFits w16 high = search rules in
-    gone c.from-residual-in-err-start.result _ c.from-residual-in-err-start.ensures.1
-    (three_third (integer lowest highest) (λ low. integer low highest) (λ low high. integer low high) variable_of c.args.at f low high (Err (Line (Number c.in-err-start.field-0.0)))
-    (ap numeral (c.in-ok-low.ensures f.x c.args.at.column f.first))
-    (ap numeral (c.in-ok-high.ensures f.y (behind c.args.at f.x).column f.second ∙ lower low fl (behind c.args.at f.x) f.y))
-    (ap numeral (c.in-err-start.ensures f.z (behind (behind c.args.at f.x) f.y).column f.third ∙ both low high fl fh (behind (behind c.args.at f.x) f.y) f.z)))
+    gone c.from_residual-in_err-start.result _ c.from_residual-in_err-start.ensures.1
+    (three_third (integer lowest highest) (λ low. integer low highest) (λ low high. integer low high) variable_of c.args.at f low high (Err (Line (Number c.in_err-start.field-0.0)))
+    (ap numeral (c.in_ok-low.ensures f.x c.args.at.column f.first))
+    (ap numeral (c.in_ok-high.ensures f.y (behind c.args.at f.x).column f.second ∙ lower low fl (behind c.args.at f.x) f.y))
+    (ap numeral (c.in_err-start.ensures f.z (behind (behind c.args.at f.x) f.y).column f.third ∙ both low high fl fh (behind (behind c.args.at f.x) f.y) f.z)))
 
 pub returns : goal.returns
 returns c =
-    let f = c.in-ok-x.ensures in
-    let low = c.in-ok-low.low in
-    let high = c.in-ok-high.high in
-    let start = c.in-ok-start.start in
+    let f = c.in_ok-x.ensures in
+    let low = c.in_ok-low.low in
+    let high = c.in_ok-high.high in
+    let start = c.in_ok-start.start in
     let fl : SFits w16 low = search rules in
     let fh : SFits w16 high = search rules in
     let fs : SFits w16 start = search rules in
     all_three low high start fl fh fs ∙
     three_third (integer lowest highest) (λ low. integer low highest) (λ low high. integer low high) variable_of c.args.at f low high (Ok start)
-    (ap numeral (c.in-ok-low.ensures f.x c.args.at.column f.first))
-    (ap numeral (c.in-ok-high.ensures f.y (behind c.args.at f.x).column f.second ∙ lower low fl (behind c.args.at f.x) f.y))
-    (ap numeral (c.in-ok-start.ensures f.z (behind (behind c.args.at f.x) f.y).column f.third ∙ both low high fl fh (behind (behind c.args.at f.x) f.y) f.z))
+    (ap numeral (c.in_ok-low.ensures f.x c.args.at.column f.first))
+    (ap numeral (c.in_ok-high.ensures f.y (behind c.args.at f.x).column f.second ∙ lower low fl (behind c.args.at f.x) f.y))
+    (ap numeral (c.in_ok-start.ensures f.z (behind (behind c.args.at f.x) f.y).column f.third ∙ both low high fl fh (behind (behind c.args.at f.x) f.y) f.z))

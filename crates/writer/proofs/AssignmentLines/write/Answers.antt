@@ -10,4 +10,4 @@ pub returns : goal.returns
 returns g c =
     let constant : SFits w16 c.args.self.now.constant = search rules in
     gives_as (three_pieces (codes "set=") (decimal c.args.self.now.target) (printed_or_dash decimal c.args.self.now.source) (signed_decimal c.args.self.now.constant))
-    (gives_then c.put.ensures (gives_then c.put-natural.ensures (gives_then c.put-2.ensures (gives_then c.put-optional.ensures (gives_then c.put-3.ensures (gives_then (simp to_z-of_z at c.put-value.ensures) c.put-4.ensures))))))
+    (gives_then c.put.ensures (gives_then c.put_natural.ensures (gives_then c.put-2.ensures (gives_then c.put_optional.ensures (gives_then c.put-3.ensures (gives_then (simp to_z-of_z at c.put_value.ensures) c.put-4.ensures))))))

@@ -6,7 +6,7 @@ use Rattle.writer.proofs.CountsLines.write.Goals as goal
 pub returns : goal.returns
 returns g c =
     let n = c.args.self.now in
-    gives_lines ((Form, 1) ∷ []) ((Autos, n.automata) ∷ (Clocks, n.clocks) ∷ (Triggers, n.triggers) ∷ (Chans, n.channels) ∷ []) c.put-count.ensures
-    (gives_lines ((Autos, n.automata) ∷ []) ((Clocks, n.clocks) ∷ (Triggers, n.triggers) ∷ (Chans, n.channels) ∷ []) c.put-count-2.ensures
-    (gives_lines ((Clocks, n.clocks) ∷ []) ((Triggers, n.triggers) ∷ (Chans, n.channels) ∷ []) c.put-count-3.ensures
-    (gives_lines ((Triggers, n.triggers) ∷ []) ((Chans, n.channels) ∷ []) c.put-count-4.ensures c.put-count-5.ensures)))
+    gives_lines ((Form, 1) ∷ []) ((Autos, n.automata) ∷ (Clocks, n.clocks) ∷ (Triggers, n.triggers) ∷ (Chans, n.channels) ∷ []) c.put_count.ensures
+    (gives_lines ((Autos, n.automata) ∷ []) ((Clocks, n.clocks) ∷ (Triggers, n.triggers) ∷ (Chans, n.channels) ∷ []) c.put_count-2.ensures
+    (gives_lines ((Clocks, n.clocks) ∷ []) ((Triggers, n.triggers) ∷ (Chans, n.channels) ∷ []) c.put_count-3.ensures
+    (gives_lines ((Triggers, n.triggers) ∷ []) ((Chans, n.channels) ∷ []) c.put_count-4.ensures c.put_count-5.ensures)))

@@ -15,7 +15,7 @@ returns g c =
     let assignments = map assignment_item (used e.assignments) in
     gives_lines ((Edge, (e.from, e.to, e.label)) ∷ []) (guard ++ (resets ++ assignments))
     (gives_as (three_pieces (codes "edge=") (decimal e.from) (decimal e.to) (label_text e.label))
-    (gives_then c.put.ensures (gives_then c.put-natural.ensures (gives_then c.put-2.ensures (gives_then c.put-natural-2.ensures (gives_then c.put-3.ensures (gives_then c.put-label.ensures c.put-4.ensures)))))))
-    (gives_lines guard (resets ++ assignments) (gives_as (group_text condition_item e.guard) c.write-all.ensures)
-    (gives_lines resets assignments (gives_as (group_text reset_item e.resets) c.write-all-2.ensures)
-    (gives_as (group_text assignment_item e.assignments) c.write-all-3.ensures)))
+    (gives_then c.put.ensures (gives_then c.put_natural.ensures (gives_then c.put-2.ensures (gives_then c.put_natural-2.ensures (gives_then c.put-3.ensures (gives_then c.put_label.ensures c.put-4.ensures)))))))
+    (gives_lines guard (resets ++ assignments) (gives_as (group_text condition_item e.guard) c.write_all.ensures)
+    (gives_lines resets assignments (gives_as (group_text reset_item e.resets) c.write_all-2.ensures)
+    (gives_as (group_text assignment_item e.assignments) c.write_all-3.ensures)))

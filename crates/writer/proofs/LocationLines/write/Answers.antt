@@ -12,5 +12,5 @@ returns g c =
     let l = c.args.self.now in
     gives_lines ((Loc, (l.automaton, l.task)) ∷ []) (map invariant_item (used l.invariants))
     (gives_as (two_pieces (codes "loc=") (decimal l.automaton) (printed_or_dash decimal l.task))
-    (gives_then c.put.ensures (gives_then c.put-natural.ensures (gives_then c.put-2.ensures (gives_then c.put-optional.ensures c.put-3.ensures)))))
-    (gives_as (group_text invariant_item l.invariants) c.write-all.ensures)
+    (gives_then c.put.ensures (gives_then c.put_natural.ensures (gives_then c.put-2.ensures (gives_then c.put_optional.ensures c.put-3.ensures)))))
+    (gives_as (group_text invariant_item l.invariants) c.write_all.ensures)

@@ -11,5 +11,5 @@ returns g c =
     let t = c.args.self.now in
     gives_lines ((Task, (t.cost, t.deadline, t.priority)) ∷ []) (map assignment_item (used t.assignments))
     (gives_as (three_pieces (codes "task=") (decimal t.cost) (decimal t.deadline) (decimal t.priority))
-    (gives_then c.put.ensures (gives_then c.put-natural.ensures (gives_then c.put-2.ensures (gives_then c.put-natural-2.ensures (gives_then c.put-3.ensures (gives_then c.put-natural-3.ensures c.put-4.ensures)))))))
-    (gives_as (group_text assignment_item t.assignments) c.write-all.ensures)
+    (gives_then c.put.ensures (gives_then c.put_natural.ensures (gives_then c.put-2.ensures (gives_then c.put_natural-2.ensures (gives_then c.put-3.ensures (gives_then c.put_natural-3.ensures c.put-4.ensures)))))))
+    (gives_as (group_text assignment_item t.assignments) c.write_all.ensures)

@@ -11,4 +11,4 @@ returns g c =
     let high : SFits w16 c.args.self.now.high = search rules in
     let start : SFits w16 c.args.self.now.start = search rules in
     gives_as (three_pieces (codes "var=") (signed_decimal c.args.self.now.low) (signed_decimal c.args.self.now.high) (signed_decimal c.args.self.now.start))
-    (gives_then c.put.ensures (gives_then (simp to_z-of_z at c.put-value.ensures) (gives_then c.put-2.ensures (gives_then (simp to_z-of_z at c.put-value-2.ensures) (gives_then c.put-3.ensures (gives_then (simp to_z-of_z at c.put-value-3.ensures) c.put-4.ensures))))))
+    (gives_then c.put.ensures (gives_then (simp to_z-of_z at c.put_value.ensures) (gives_then c.put-2.ensures (gives_then (simp to_z-of_z at c.put_value-2.ensures) (gives_then c.put-3.ensures (gives_then (simp to_z-of_z at c.put_value-3.ensures) c.put-4.ensures))))))
