@@ -9,7 +9,7 @@ ghost use Rattle.events.specs.Steps.{listed, step_cause, StepTaken};
 
 use crate::sides::Sides;
 use jobs::Order;
-use machine::core::Core;
+use moves::engine::Engine;
 use parts::part::{Edge, Label};
 use rows::fault::StepFault;
 use runs::event::Cause;
@@ -37,43 +37,43 @@ impl Sides {
 }
 
 // Whether the jobs that a step releases find room.
-fn has_room(core: &Core, sides: &Sides) -> bool
-    ensures { result ≡ nat_le (length (model [] core.now).waiting + releases (model [] core.now).plan (listed sides.now)) 32 }
+fn has_room(engine: &Engine, sides: &Sides) -> bool
+    ensures { result ≡ nat_le (length (model [] engine.now.core).waiting + releases (model [] engine.now.core).plan (listed sides.now)) 32 }
 {
-    let first = core.releases(sides.first.to);
+    let first = engine.releases(sides.first.to);
     let second = match sides.second {
-        Some(edge) => core.releases(edge.to),
+        Some(edge) => engine.releases(edge.to),
         None => 0,
     };
-    core.queue.len() + first + second <= MOST_JOBS
+    engine.core.queue.len() + first + second <= MOST_JOBS
 }
 
 // The assignments of a step.
-fn assign_sides(core: &mut Core, sides: &Sides, room: bool) -> Result<(), StepFault>
-    ensures { Assigns room (assign_edges (model [] core.old).plan.variables (listed sides.now) (model [] core.old).values) (model [] core.old) (model [] core.new) result }
+fn assign_sides(engine: &mut Engine, sides: &Sides, room: bool) -> Result<(), StepFault>
+    ensures { Assigns room (assign_edges (model [] engine.old.core).plan.variables (listed sides.now) (model [] engine.old.core).values) (model [] engine.old.core) (model [] engine.new.core) result }
 {
     match sides.second {
-        Some(edge) => core.assign(&sides.first.assignments, &edge.assignments, room),
-        None => core.assign(&sides.first.assignments, &[], room),
+        Some(edge) => engine.assign(&sides.first.assignments, &edge.assignments, room),
+        None => engine.assign(&sides.first.assignments, &[], room),
     }
 }
 
 // What one side of a step changes beside the variables.
-fn take_side<O: Order>(core: &mut Core, order: &O, edge: &Edge)
-    ensures { length (model [] core.old).waiting + releases_at (model [] core.old).plan edge.now.to ≤ 32 → model [] core.new ≡ side_taken (O.Precedence.before order.now) edge.now (model [] core.old) }
+fn take_side<O: Order>(engine: &mut Engine, order: &O, edge: &Edge)
+    ensures { length (model [] engine.old.core).waiting + releases_at (model [] engine.old.core).plan edge.now.to ≤ 32 → model [] engine.new.core ≡ side_taken (O.Precedence.before order.now) edge.now (model [] engine.old.core) }
 {
-    core.zero(&edge.resets);
-    core.follow(edge);
-    core.release(order, edge.to);
+    engine.zero(&edge.resets);
+    engine.follow(edge);
+    engine.release(order, edge.to);
 }
 
 // What all sides of a step change beside the variables.
-fn take_sides<O: Order>(core: &mut Core, order: &O, sides: &Sides)
-    ensures { length (model [] core.old).waiting + releases (model [] core.old).plan (listed sides.now) ≤ 32 → model [] core.new ≡ sides_taken (O.Precedence.before order.now) (listed sides.now) (model [] core.old) }
+fn take_sides<O: Order>(engine: &mut Engine, order: &O, sides: &Sides)
+    ensures { length (model [] engine.old.core).waiting + releases (model [] engine.old.core).plan (listed sides.now) ≤ 32 → model [] engine.new.core ≡ sides_taken (O.Precedence.before order.now) (listed sides.now) (model [] engine.old.core) }
 {
-    take_side(core, order, &sides.first);
+    take_side(engine, order, &sides.first);
     if let Some(edge) = sides.second {
-        take_side(core, order, &edge);
+        take_side(engine, order, &edge);
     }
 }
 
@@ -89,22 +89,22 @@ fn cause_of(fault: StepFault) -> Cause
 
 // An edge is taken with its partner, or the answer says why not and nothing has changed.
 pub fn take<O: Order>(
-    core: &mut Core,
+    engine: &mut Engine,
     order: &O,
     edge: &Edge,
     partner: Option<Edge>,
 ) -> Result<(), Cause>
-    ensures { StepTaken (O.Precedence.before order.now) edge.now partner (model [] core.old) (model [] core.new) result }
+    ensures { StepTaken (O.Precedence.before order.now) edge.now partner (model [] engine.old.core) (model [] engine.new.core) result }
 {
-    if core.steps >= MOST_STEPS {
+    if engine.core.steps >= MOST_STEPS {
         return Err(Cause::StepLimit);
     }
     let sides = Sides::new(edge, partner);
-    match assign_sides(core, &sides, has_room(core, &sides)) {
+    match assign_sides(engine, &sides, has_room(engine, &sides)) {
         Ok(()) => {}
         Err(fault) => return Err(cause_of(fault)),
     }
-    take_sides(core, order, &sides);
-    core.count_step(edge.label);
+    take_sides(engine, order, &sides);
+    engine.count_step(edge.label);
     Ok(())
 }

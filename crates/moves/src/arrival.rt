@@ -22,18 +22,18 @@ pub fn take_due<S: Source>(source: &mut S, tick: u32) -> Option<Trigger>
     Some(trigger)
 }
 
-impl Core {
+impl Engine {
     // Whether a trigger that comes would become present: it is known and absent.
     pub fn accepts(&self, trigger: u8) -> bool
-        ensures { result ≡ is_new (model [] self.now).present trigger }
+        ensures { result ≡ is_new (model [] self.now.core).present trigger }
     {
-        let count = self.sequence.counts().triggers;
-        trigger < count && !is_present(&self.present[0..count as usize], trigger)
+        let count = self.core.sequence.counts().triggers;
+        trigger < count && !is_present(&self.core.present[0..count as usize], trigger)
     }
 
     // A trigger comes: whether it becomes present. One that is unknown or already present does not.
     pub fn arrive(&mut self, trigger: u8) -> bool
-        ensures { Arrived trigger (model [] self.old) (model [] self.new) result }
+        ensures { Arrived trigger (model [] self.old.core) (model [] self.new.core) result }
     {
         if !self.accepts(trigger) {
             return false;

@@ -21,39 +21,39 @@ fn first_present(present: &[bool], count: u8) -> Option<u8>
     None
 }
 
-impl Core {
+impl Engine {
     // The lowest present trigger, or none.
     pub fn lowest_present(&self) -> Option<u8>
-        ensures { LowestPresent (model [] self.now).present result }
+        ensures { LowestPresent (model [] self.now.core).present result }
     {
-        let count = self.sequence.counts().triggers;
-        first_present(&self.present[0..count as usize], count)
+        let count = self.core.sequence.counts().triggers;
+        first_present(&self.core.present[0..count as usize], count)
     }
 
     // Whether an automaton may be at its location at a tick.
     fn may_be_at(&self, automaton: u8, tick: u32) -> bool
-        ensures { result ≡ may_stay (model [] self.now) tick automaton }
+        ensures { result ≡ may_stay (model [] self.now.core) tick automaton }
     {
-        let counts = self.sequence.counts();
+        let counts = self.core.sequence.counts();
         let Some(place) = item(
-            &self.places[0..counts.automata as usize],
+            &self.core.places[0..counts.automata as usize],
             automaton as usize,
         ) else {
             return true;
         };
         may_stay(
-            self.sequence.location(place),
-            &self.zeroed[0..counts.clocks as usize],
+            self.core.sequence.location(place),
+            &self.core.zeroed[0..counts.clocks as usize],
             tick,
         )
     }
 
     // The lowest automaton whose location's invariants fail at the next tick, or none.
     pub fn stuck(&self) -> Option<u8>
-        ensures { LowestStuck (model [] self.now) result }
+        ensures { LowestStuck (model [] self.now.core) result }
     {
-        for a in 0..self.sequence.counts().automata {
-            if !self.may_be_at(a, self.now + 1) {
+        for a in 0..self.core.sequence.counts().automata {
+            if !self.may_be_at(a, self.core.now + 1) {
                 return Some(a);
             }
         }

@@ -9,12 +9,12 @@ use crate::engine::Engine;
 use jobs::Order;
 use jobs::job::Job;
 
-impl Core {
+impl Engine {
     // The number of a location's task.
     fn task_number(&self, location: u8) -> Option<u8>
-        ensures { result ≡ task_in (slice_get (model [] self.now).plan.locations location) }
+        ensures { result ≡ task_in (slice_get (model [] self.now.core).plan.locations location) }
     {
-        match self.sequence.location(location) {
+        match self.core.sequence.location(location) {
             Some(l) => l.task,
             None => None,
         }
@@ -22,12 +22,12 @@ impl Core {
 
     // How many jobs come with a location: one where it has a task.
     pub fn releases(&self, location: u8) -> usize
-        ensures { result ≡ releases_at (model [] self.now).plan location }
+        ensures { result ≡ releases_at (model [] self.now.core).plan location }
     {
         let Some(number) = self.task_number(location) else {
             return 0;
         };
-        match self.sequence.task(number) {
+        match self.core.sequence.task(number) {
             Some(_) => 1,
             None => 0,
         }
@@ -35,26 +35,26 @@ impl Core {
 
     // The task of a location is released, where there is room.
     pub fn release<O: Order>(&mut self, order: &O, location: u8)
-        ensures { length (model [] self.old).waiting + releases_at (model [] self.old).plan location ≤ 32 → model [] self.new ≡ location_released (O.Precedence.before order.now) location (model [] self.old) }
+        ensures { length (model [] self.old.core).waiting + releases_at (model [] self.old.core).plan location ≤ 32 → model [] self.new.core ≡ location_released (O.Precedence.before order.now) location (model [] self.old.core) }
     {
         let Some(number) = self.task_number(location) else {
             return;
         };
-        let Some(task) = self.sequence.task(number) else {
+        let Some(task) = self.core.sequence.task(number) else {
             return;
         };
         let job = Job::released(
-            self.next,
+            self.core.next,
             number,
             task.cost,
             task.deadline,
             task.priority,
-            self.now,
+            self.core.now,
         );
-        let mut queue = self.queue;
+        let mut queue = self.core.queue;
         if let Ok(()) = queue.release(order, job) {
-            self.queue = queue;
-            self.next += 1;
+            self.core.queue = queue;
+            self.core.next += 1;
         }
     }
 }

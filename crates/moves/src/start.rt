@@ -7,6 +7,7 @@ ghost use Rattle.runs.specs.Values.{no_variable};
 ghost use Rattle.machine.specs.Model.{model};
 
 use crate::engine::Engine;
+use machine::core::Core;
 use parts::part::Variable;
 use ready_queue::queue::ReadyQueue;
 use runs::event::Phase;
@@ -59,25 +60,27 @@ fn first_values(sequence: &Sequence) -> [i16; 16]
     values
 }
 
-impl Core {
+impl Engine {
     // Tick 0: each automaton at its lowest location, all clocks and variables at their start, and nobody waits.
     pub fn new(sequence: Sequence) -> Self
-        ensures { (ts : List Trigger) → model ts result ≡ start (plan sequence) ts }
+        ensures { (ts : List Trigger) → model ts result.core ≡ start (plan sequence) ts }
     {
         let places = first_places(&sequence);
         let values = first_values(&sequence);
-        Core {
-            sequence,
-            now: 0,
-            phase: Phase::Late,
-            places,
-            zeroed: [0; 16],
-            values,
-            queue: ReadyQueue::new(),
-            next: 0,
-            present: [false; 16],
-            steps: 0,
-            ended: false,
+        Engine {
+            core: Core {
+                sequence,
+                now: 0,
+                phase: Phase::Late,
+                places,
+                zeroed: [0; 16],
+                values,
+                queue: ReadyQueue::new(),
+                next: 0,
+                present: [false; 16],
+                steps: 0,
+                ended: false,
+            },
         }
     }
 }

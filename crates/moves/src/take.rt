@@ -13,21 +13,21 @@ use rows::fault::StepFault;
 use rows::step::run_step;
 use rows::take::{move_to, reset_all, take_trigger};
 
-impl Core {
+impl Engine {
     // Clocks are zeroed at this tick.
     pub fn zero(&mut self, resets: &[Option<Reset>])
-        ensures { model [] self.new ≡ with_zeroed (reset_all self.old.now resets.now (model [] self.old).zeroed) (model [] self.old) }
+        ensures { model [] self.new.core ≡ with_zeroed (reset_all self.old.core.now resets.now (model [] self.old.core).zeroed) (model [] self.old.core) }
     {
-        let mut row = self.zeroed;
-        reset_all(&mut row, resets, self.now);
-        self.zeroed = row;
+        let mut row = self.core.zeroed;
+        reset_all(&mut row, resets, self.core.now);
+        self.core.zeroed = row;
     }
 
     // The automaton of a location.
     fn automaton_of(&self, location: u8) -> u8
-        ensures { result ≡ automaton (model [] self.now).plan location }
+        ensures { result ≡ automaton (model [] self.now.core).plan location }
     {
-        match self.sequence.location(location) {
+        match self.core.sequence.location(location) {
             Some(l) => l.automaton,
             None => 0,
         }
@@ -35,23 +35,23 @@ impl Core {
 
     // An edge leads its automaton to the new location.
     pub fn follow(&mut self, edge: &Edge)
-        ensures { model [] self.new ≡ with_places (slice_set (model [] self.old).places (automaton (model [] self.old).plan edge.now.from) edge.now.to) (model [] self.old) }
+        ensures { model [] self.new.core ≡ with_places (slice_set (model [] self.old.core).places (automaton (model [] self.old.core).plan edge.now.from) edge.now.to) (model [] self.old.core) }
     {
         let automaton = self.automaton_of(edge.from);
-        let mut row = self.places;
+        let mut row = self.core.places;
         move_to(&mut row, automaton, edge.to);
-        self.places = row;
+        self.core.places = row;
     }
 
     // A step is counted, and its trigger is taken.
     pub fn count_step(&mut self, label: Label)
-        requires { self.old.steps < 64 }
-        ensures { model [] self.new ≡ stepped (take_trigger label (model [] self.old).present) (model [] self.old) }
+        requires { self.old.core.steps < 64 }
+        ensures { model [] self.new.core ≡ stepped (take_trigger label (model [] self.old.core).present) (model [] self.old.core) }
     {
-        let mut row = self.present;
+        let mut row = self.core.present;
         take_trigger(&mut row, label);
-        self.present = row;
-        self.steps += 1;
+        self.core.present = row;
+        self.core.steps += 1;
     }
 
     // The assignments of a step, the first group's, then the second's. Refused as a whole where one leaves a range, or
@@ -62,18 +62,18 @@ impl Core {
         second: &[Option<Assignment>],
         room: bool,
     ) -> Result<(), StepFault>
-        ensures { Assigns room (assign_both (model [] self.old).plan.variables first.now second.now (model [] self.old).values) (model [] self.old) (model [] self.new) result }
+        ensures { Assigns room (assign_both (model [] self.old.core).plan.variables first.now second.now (model [] self.old.core).values) (model [] self.old.core) (model [] self.new.core) result }
     {
-        let count = self.sequence.variables().len();
-        let mut row = self.values;
+        let count = self.core.sequence.variables().len();
+        let mut row = self.core.values;
         let done = run_step(
-            self.sequence.variables(),
+            self.core.sequence.variables(),
             &mut row[0..count],
             first,
             second,
             room,
         );
-        self.values = row;
+        self.core.values = row;
         done
     }
 }

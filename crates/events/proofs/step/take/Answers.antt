@@ -7,11 +7,11 @@ use Rattle.events.proofs.step.take.Goals as goal
 
 pub returns-in-Err : goal.returns-in-Err
 returns-in-Err g c =
-    step_refused (g.O.Precedence.before c.args.order.now) (listed c.new-sides.result) (sides c.args.edge.now c.args.partner) (model [] c.args.core.now) (model [] c.assign-sides.new.core)
-    c.has-room.result c.in-Err.fault c.cause-of.result c.new-sides.ensures (omega arith) c.has-room.ensures c.cause-of.ensures c.in-Err.ensures
+    step_refused (g.O.Precedence.before c.args.order.now) (listed c.new-sides.result) (sides c.args.edge.now c.args.partner) (model [] c.args.engine.now.core) (model [] c.assign_sides.new.engine.core)
+    c.has_room.result c.in-Err.fault c.cause_of.result c.new-sides.ensures (omega arith) c.has_room.ensures c.cause_of.ensures c.in-Err.ensures
 
 pub returns : goal.returns
 returns g c =
-    took_from (g.O.Precedence.before c.args.order.now) c.args.edge.now (listed c.new-sides.result) (sides c.args.edge.now c.args.partner) (model [] c.args.core.now)
-    (model [] c.assign-sides.new.core) (model [] c.take-sides.new.core) (model [] c.count-step.new.self)
-    c.has-room.result c.new-sides.ensures (omega arith) c.has-room.ensures c.in-Ok.ensures c.take-sides.ensures c.count-step.ensures
+    took_from (g.O.Precedence.before c.args.order.now) c.args.edge.now (listed c.new-sides.result) (sides c.args.edge.now c.args.partner) (model [] c.args.engine.now.core)
+    (model [] c.assign_sides.new.engine.core) (model [] c.take_sides.new.engine.core) (model [] c.count_step.new.self.core)
+    c.has_room.result c.new-sides.ensures (omega arith) c.has_room.ensures c.in-Ok.ensures c.take_sides.ensures c.count_step.ensures

@@ -9,7 +9,7 @@ pub loop-i-preserved : goal.loop-i-preserved
 loop-i-preserved c =
     let few = (sound_facts (plan c.args.sequence.now) c.args.sequence.now.draft.valid).few_variables in (
       simp length-set c.loop-i.invariant.0,
-      values_more c.loop-i.values c.loop-i.i _ c.variables-variables.result.now (omega (arith, ap length c.variables-variables.ensures)) c.loop-i-test.true (let e = c.start-value.ensures in omega (arith, ints) ∙ e) c.loop-i.invariant.1,
+      values_more c.loop-i.values c.loop-i.i _ c.variables-variables.result.now (omega (arith, ap length c.variables-variables.ensures)) c.loop-i-test.true (let e = c.start_value.ensures in omega (arith, ints) ∙ e) c.loop-i.invariant.1,
     )
 
 pub returns : goal.returns
