@@ -8,7 +8,7 @@ use Rattle.runs.specs.State.{with_jobs}
 use Rattle.rows.specs.declared.fault.StepFault.{StepFault}
 use Rattle.rows.specs.declared.fault.StepFault.TheVariants.{Range, Room}
 use Rattle.rows.specs.Rows.{assign_both, StepRun}
-use Rattle.machine.specs.declared.core.Core.{Core}
+use Rattle.machine.specs.declared.engine_core.Core.{Core}
 use Rattle.machine.specs.Model.{model}
 use Rattle.moves.specs.Assigning.{Assigns}
 

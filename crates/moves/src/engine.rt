@@ -3,7 +3,7 @@ ghost use Rattle.ready_queue.specs.Waiting.{waiting};
 ghost use Rattle.machine.specs.Model.{model};
 ghost use Rattle.machine.specs.Spent.{spent};
 
-use machine::core::Core;
+use machine::engine_core::Core;
 
 // The inner state of an engine with what every run keeps of it: the tick, the numbers of jobs and the zeroings are bounded.
 #[derive(Drop)]

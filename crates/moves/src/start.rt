@@ -7,7 +7,7 @@ ghost use Rattle.runs.specs.Values.{no_variable};
 ghost use Rattle.machine.specs.Model.{model};
 
 use crate::engine::Engine;
-use machine::core::Core;
+use machine::engine_core::Core;
 use parts::part::Variable;
 use ready_queue::queue::ReadyQueue;
 use runs::event::Phase;
