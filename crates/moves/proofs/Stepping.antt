@@ -1,5 +1,5 @@
 -- The assignments of a step on the places of a row that are in use.
-use Rattle.std.proofs.Common.{◌≡◌, ℕ, ◌+◌, ◌≤◌, Bool, List, [], ◌++◌, length, take, ℤ, Some, Ok, Err, Option, Result, sym, refl, ap, ◌∙◌, subst, arith, length-take}
+use Rattle.std.proofs.Common.{◌≡◌, ℕ, ◌≤◌, Bool, List, [], ◌++◌, length, take, ℤ, Some, Ok, Err, Option, Result, sym, refl, ap, ◌∙◌, subst, arith, length-take}
 use Rattle.std.proofs.lemmas.List.{take_at}
 use Rattle.parts.specs.declared.part.Assignment.{Assignment}
 use Rattle.parts.specs.declared.part.Variable.{Variable}
