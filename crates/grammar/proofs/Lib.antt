@@ -6,6 +6,7 @@ pub mod Placing
 pub mod Bytewise
 pub mod Spelling
 pub mod Printing
+mod Kept
 pub mod Narrow
 pub mod Groups
 pub mod Lining

@@ -3,6 +3,7 @@
 
 ghost use Rattle.grammar.specs.Laws.{ReadIsWritten, ReadIsValid, WrittenIsRead, EveryTextFits, OneSequenceToAText, ReadOrRefused, RefusedIsNoSequence, FaultsLieInTheText};
 
+pub mod in_memory;
 pub mod stage;
 
 // What was read is what would be written, byte for byte, and the rest is the rest.
