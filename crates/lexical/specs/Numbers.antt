@@ -1,5 +1,5 @@
 -- Numbers: how they are spelt, and what they say.
-use Rattle.std.specs.Prelude.{ℕ, pred, ◌+◌, ◌-◌, ◌*◌, Bool, true, false, cond, not, ◌&&◌, List, [], ◌∷◌, ℤ, pos, negsuc, Ok, Err, Result, ◌==◌, int_le, nat_le}
+use Rattle.std.specs.Prelude.{ℕ, pred, ◌+◌, ◌-◌, ◌*◌, Bool, false, cond, not, ◌&&◌, List, [], ◌∷◌, ℤ, pos, negsuc, Ok, Err, Result, ◌==◌, int_le, nat_le}
 use Rattle.std.specs.Str.{all_ascii_digits}
 use Rattle.lexical.specs.declared.fault.Place.{Place}
 use Rattle.lexical.specs.declared.fault.NumberFault.{NumberFault}

@@ -1,5 +1,5 @@
 -- What a token is of a field, and of a key.
-use Rattle.std.specs.Prelude.{◌≡◌, ℕ, Bool, true, false, cond, not, ◌&&◌, ◌||◌, List, [], ◌∷◌, codes, ◌==◌, nat_le}
+use Rattle.std.specs.Prelude.{◌≡◌, ℕ, Bool, true, false, ◌&&◌, ◌||◌, List, [], ◌∷◌, codes, ◌==◌, nat_le}
 use Rattle.lexical.specs.declared.token.Token.{Token}
 use Rattle.lexical.specs.declared.token.Token.TheVariants.{Key, Number, Word, Dash}
 use Rattle.lexical.specs.Bytes.{same}

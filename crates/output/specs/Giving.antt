@@ -1,5 +1,5 @@
 -- Bytes given to a sink, one after another.
-use Rattle.std.specs.Prelude.{◌≡◌, ℕ, ◌+◌, ◌<◌, ◌≤◌, Bool, true, false, ◌⊎◌, List, [], ◌∷◌, ◌++◌, length, take, drop, Ok, Err, Result}
+use Rattle.std.specs.Prelude.{◌≡◌, ℕ, ◌+◌, ◌<◌, ◌≤◌, Bool, true, false, ◌⊎◌, List, ◌++◌, length, take, drop, Ok, Err, Result}
 use Rattle.output.specs.declared.OutputShort.{OutputShort}
 
 -- a sink that was s is t once it was given the bytes, over the same buffer

@@ -1,5 +1,5 @@
 -- When a line of the release table can be used.
-use Rattle.std.specs.Prelude.{◌≡◌, ℕ, ◌<◌, ◌≤◌, ◌⊎◌, Ok, Err, Result}
+use Rattle.std.specs.Prelude.{◌≡◌, ℕ, ◌<◌, ◌≤◌, Ok, Err, Result}
 use Rattle.serve_table.specs.declared.row.Row.{Row}
 use Rattle.serve_table.specs.declared.row.Fault.{Fault}
 
