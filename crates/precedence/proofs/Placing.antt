@@ -1,35 +1,36 @@
 -- The search for the place, and what the move and the write leave.
-use Rattle.std.proofs.Common.{◌≡◌, ℕ, ◌+◌, ◌-◌, ◌<◌, ◌≤◌, Bool, true, false, List, [], ◌∷◌, ◌++◌, length, get_or, take, drop, set, sym, ap, ◌∙◌, subst, arith, rules}
+use Rattle.std.proofs.Common.{◌≡◌, ℕ, suc, ◌+◌, ◌-◌, ◌<◌, ◌≤◌, Bool, true, false, not, nat_lt, Option, List, [], ◌∷◌, ◌++◌, length, take, drop, set, sym, ap, ◌∙◌, subst, refl, ⊎_elim, arith, rules}
 use lib.Seq.{paste}
-use Rattle.std.proofs.lemmas.List.{drop_more, take_more, drop_all, take_all, append_assoc, same_lists, places, get_or-set_same, length-take-le, take_at}
-use Rattle.std.proofs.lemmas.Bool.{cond-true, cond-false, cases_eq}
+use Rattle.std.specs.List.{position, position_or_len}
+use Rattle.std.specs.Option.{unwrap_or}
+use Rattle.std.proofs.lemmas.List.{same_lists, places, get_or-set_same, length-take-le, take_at}
+use Rattle.std.proofs.lemmas.Bool.{cond_both, cases_eq, cases_Bool, ltb-false}
+use Rattle.std.proofs.lemmas.List.Sums.{prefix_len-le-length}
 use Rattle.precedence.specs.Laws.{WeakOrder}
 use Rattle.precedence.specs.Sorted.{put}
 use Rattle.precedence.specs.Insertion.{Inserted}
 use Rattle.precedence.proofs.Putting.{length_put, put_inserted}
 
 module _ {X : Type 0} (g : X → X → Bool) (x : X) where
-  at_read : (xs : List X) (i : ℕ) (y : X) → i < length xs → y ≡ get_or xs i y → drop i xs ≡ y ∷ drop (i + 1) xs
-  at_read xs i y h r = drop_more xs i y h ∙ ap (λ z. z ∷ drop (i + 1) xs) (sym r)
+  at_first : (xs : List X) → take (position_or_len (g x) xs) xs ++ (x ∷ drop (position_or_len (g x) xs) xs) ≡ put g x xs
+  at_first [] = refl
+  at_first (y ∷ ys) =
+      ⊎_elim
+      (λ (t : g x y ≡ true). simp t)
+      (λ (f : g x y ≡ false).
+      let s : 1 + position_or_len (g x) ys ≡ suc (position_or_len (g x) ys) = omega arith in
+      simp (f, s) (ap (λ l. y ∷ l) (at_first ys)))
+      (cases_Bool (g x y))
 
-  pub place_here : (xs : List X) (i : ℕ) (y : X) → i < length xs → y ≡ get_or xs i y → g x y ≡ true → take i xs ++ put g x (drop i xs) ≡ put g x xs → take i xs ++ (x ∷ drop i xs) ≡ put g x xs
-  place_here xs i y h r t inv =
-      let e : drop i xs ≡ y ∷ drop (i + 1) xs = at_read xs i y h r in
-      let p : put g x (drop i xs) ≡ x ∷ drop i xs = ap (put g x) e ∙ (cond-true (g x y) _ _ t ∙ ap (λ l. x ∷ l) (sym e)) in
-      ap (λ l. take i xs ++ l) (sym p) ∙ inv
-
-  pub place_later : (xs : List X) (i : ℕ) (y : X) → i < length xs → y ≡ get_or xs i y → g x y ≡ false → take i xs ++ put g x (drop i xs) ≡ put g x xs → take (i + 1) xs ++ put g x (drop (i + 1) xs) ≡ put g x xs
-  place_later xs i y h r f inv =
-      let e : drop i xs ≡ y ∷ drop (i + 1) xs = at_read xs i y h r in
-      let p : put g x (drop i xs) ≡ y ∷ put g x (drop (i + 1) xs) = ap (put g x) e ∙ cond-false (g x y) _ _ f in
-      let q : take (i + 1) xs ≡ take i xs ++ (y ∷ []) = take_more xs i y h ∙ ap (λ z. take i xs ++ (z ∷ [])) (sym r) in
-      ap (λ l. l ++ put g x (drop (i + 1) xs)) q ∙ (append_assoc (take i xs) (y ∷ []) (put g x (drop (i + 1) xs)) ∙ (ap (λ l. take i xs ++ l) (sym p) ∙ inv))
-
-  pub place_last : (xs : List X) (i : ℕ) → length xs ≤ i → take i xs ++ put g x (drop i xs) ≡ put g x xs → take (length xs) xs ++ (x ∷ drop (length xs) xs) ≡ put g x xs
-  place_last xs i h inv =
-      ap (λ l. l ++ (x ∷ drop (length xs) xs)) (take_all (length xs) xs (omega arith) ∙ sym (take_all i xs h))
-      ∙ (ap (λ l. take i xs ++ (x ∷ l)) (drop_all (length xs) xs (omega arith))
-      ∙ (ap (λ l. take i xs ++ put g x l) (sym (drop_all i xs h)) ∙ inv))
+  -- the first record that x goes before, or the end
+  pub place_is : (xs : List X) (o : Option ℕ) (i : ℕ) → o ≡ position (g x) xs → i ≡ unwrap_or o (length xs) → take i xs ++ (x ∷ drop i xs) ≡ put g x xs
+  place_is xs o i f e =
+      let n = position_or_len (g x) xs in
+      let p : unwrap_or (position (g x) xs) (length xs) ≡ n =
+      cond_both (nat_lt n (length xs)) _ _ (λ (o : Option ℕ). unwrap_or o (length xs) ≡ n)
+      (λ _. refl)
+      (λ h. omega (arith, ltb-false n (length xs) h, prefix_len-le-length (λ y. not (g x y)) xs)) in
+      ap (λ k. take k xs ++ (x ∷ drop k xs)) (e ∙ (ap (λ (r : Option ℕ). unwrap_or r (length xs)) f ∙ p)) ∙ at_first xs
 
   moved_is : (row : List X) (len i : ℕ) → len < length row → i ≤ len → set (paste row (i + 1) (drop i row) (len - i)) i x ≡ (take i (take len row) ++ (x ∷ drop i (take len row))) ++ drop (len + 1) row
   moved_is row len i h k = same_lists _ _ (search (rules, places)) (λ j d lt. let s = cases_eq j i in grind (arith, places, get_or-set_same))

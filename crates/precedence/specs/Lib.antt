@@ -1,3 +1,4 @@
 pub mod Laws
 pub mod Sorted
 pub mod Insertion
+pub mod Bounded

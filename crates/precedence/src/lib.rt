@@ -7,6 +7,8 @@ ghost use Rattle.precedence.specs.Sorted.{by_key, put};
 ghost use Rattle.precedence.specs.Insertion.{Inserts};
 ghost use Rattle.std.proofs.Common.{rules};
 
+pub mod bounded;
+
 // A policy value that says which of two keys goes before the other.
 // Keys that it does not tell apart are of equal rank.
 pub trait Precedence<K> {
@@ -58,12 +60,9 @@ fn place<K: Drop, T: Keyed<K>, O: Precedence<K>>(order: &O, row: &[T], x: &T) ->
     ensures there { take result row.now ++ (x.now ∷ drop result row.now) ≡ put (by_key T.Keyed.key (O.Precedence.before order.now)) x.now row.now }
 {
     let key = x.order_key();
-    for (i, y) in row.iter().enumerate() {
-        if order.goes_before(&key, &y.order_key()) {
-            return i;
-        }
-    }
-    row.len()
+    row.iter()
+        .position(|y| order.goes_before(&key, &y.order_key()))
+        .unwrap_or(row.len())
 }
 
 // Puts `x` among the first `len` records of `row`, behind those that it does not go before.
