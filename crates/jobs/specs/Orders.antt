@@ -1,7 +1,8 @@
 -- The orders: which of two jobs goes before the other.
-use Rattle.std.specs.Prelude.{◌≡◌, ℕ, ◌+◌, Bool, true, false, ◌&&◌, ◌||◌, List, Some, None, codes, Option, ◌==◌, ◌≢◌, nat_lt}
+use Rattle.std.specs.Prelude.{◌≡◌, ℕ, ◌+◌, Bool, true, false, ◌&&◌, ◌||◌, List, Ok, Err, codes, Result, ◌==◌, ◌≢◌, nat_lt}
 use Rattle.jobs.specs.declared.job.JobKey.{JobKey}
 use Rattle.jobs.specs.declared.job.OrderName.{OrderName}
+use Rattle.jobs.specs.declared.job.UnknownOrder.{UnknownOrder}
 use Rattle.jobs.specs.declared.job.OrderName.TheVariants.{Fp, Ed, Fc}
 
 -- fixed priorities: the greater priority, of equal ones the smaller number
@@ -46,7 +47,11 @@ order_word Fp = codes "fp"
 order_word Ed = codes "ed"
 order_word Fc = codes "fc"
 
--- which order a word names: none where it is no order's word
-abbrev pub Names : List ℕ → Option OrderName → Type 0
-Names w (Some n) = w ≡ order_word n
-Names w None = (n : OrderName) → w ≢ order_word n
+-- what is said of a word that names no order
+abbrev pub unknown_order : List ℕ
+unknown_order = codes "no order has this word"
+
+-- which order a word names: an error where it is no order's word
+abbrev pub Names : List ℕ → Result OrderName UnknownOrder → Type 0
+Names w (Ok n) = w ≡ order_word n
+Names w (Err _) = (n : OrderName) → w ≢ order_word n

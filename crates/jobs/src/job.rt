@@ -36,6 +36,10 @@ pub enum OrderName {
     Fc,
 }
 
+// A word that names no order.
+#[derive(Clone, Copy, PartialEq, Eq, Debug)]
+pub struct UnknownOrder;
+
 // A named order, with or without hold over it.
 #[derive(Clone, Copy)]
 pub struct Policy {

@@ -1,20 +1,23 @@
 // Jobs, and the orders that say which of two waiting jobs goes first.
 #![tactic(auto)]
 
-ghost use Rattle.std.specs.Prelude.{◌≡◌};
+ghost use Rattle.std.specs.Prelude.{◌≡◌, Some};
 ghost use Rattle.jobs.specs.declared.job.Job.{Job};
 ghost use Rattle.jobs.specs.declared.job.JobKey.{JobKey};
 ghost use Rattle.jobs.specs.Jobs.{key_of, released_job, worked, late};
 ghost use Rattle.jobs.specs.Laws.{JobOrder};
-ghost use Rattle.jobs.specs.Orders.{fp_before, ed_before, fc_before, hold_before, named_before, policy_before, order_word, Names};
+ghost use Rattle.jobs.specs.Orders.{fp_before, ed_before, fc_before, hold_before, named_before, policy_before, order_word, unknown_order, Names};
 ghost use Rattle.jobs.specs.Preemption.{PreemptsUnlessHeld};
 ghost use Rattle.std.proofs.Common.{rules};
 ghost use Rattle.jobs.specs.Named.{named_lawful, policy_lawful, policy_orders};
 
 pub mod job;
 
-use job::{Job, JobKey, OrderName, Policy};
+use job::{Job, JobKey, OrderName, Policy, UnknownOrder};
 use precedence::{Keyed, Precedence};
+use std::cmp::Reverse;
+use std::error::Error;
+use std::fmt;
 
 impl Job {
     // A job as its task's release makes it.
@@ -88,7 +91,7 @@ impl Precedence<JobKey> for Fp {
     ghost lawful = { Prim.search rules };
 
     fn goes_before(&self, a: &JobKey, b: &JobKey) -> bool {
-        a.priority > b.priority || (a.priority == b.priority && a.number < b.number)
+        (Reverse(a.priority), a.number) < (Reverse(b.priority), b.number)
     }
 }
 
@@ -108,7 +111,7 @@ impl Precedence<JobKey> for Ed {
     fn goes_before(&self, a: &JobKey, b: &JobKey) -> bool {
         let x = u64::from(a.release) + u64::from(a.deadline);
         let y = u64::from(b.release) + u64::from(b.deadline);
-        x < y || (x == y && a.number < b.number)
+        (x, a.number) < (y, b.number)
     }
 }
 
@@ -192,19 +195,22 @@ impl Order for Policy {
     ghost orders = { λ p. policy_orders p.hold p.name };
 }
 
-impl OrderName {
-    // The order that a word names, or none.
-    pub fn from_word(word: &[u8]) -> Option<OrderName>
-        ensures { Names word.now result }
-    {
+impl TryFrom<&[u8]> for OrderName {
+    type Error = UnknownOrder;
+
+    ghost try_from_gives = { λ word. Names word.now };
+
+    fn try_from(word: &[u8]) -> Result<Self, UnknownOrder> {
         match word {
-            b"fp" => Some(OrderName::Fp),
-            b"ed" => Some(OrderName::Ed),
-            b"fc" => Some(OrderName::Fc),
-            _ => None,
+            b"fp" => Ok(OrderName::Fp),
+            b"ed" => Ok(OrderName::Ed),
+            b"fc" => Ok(OrderName::Fc),
+            _ => Err(UnknownOrder),
         }
     }
+}
 
+impl OrderName {
     // The order's word.
     pub fn word(self) -> &'static str
         ensures { result.now ≡ order_word self }
@@ -216,6 +222,24 @@ impl OrderName {
         }
     }
 }
+
+impl fmt::Display for OrderName {
+    ghost output = { λ name. Some (order_word name) };
+
+    fn fmt<W: fmt::Write>(&self, f: &mut fmt::Formatter<W>) -> fmt::Result {
+        f.write_str(self.word())
+    }
+}
+
+impl fmt::Display for UnknownOrder {
+    ghost output = { λ _. Some unknown_order };
+
+    fn fmt<W: fmt::Write>(&self, f: &mut fmt::Formatter<W>) -> fmt::Result {
+        f.write_str("no order has this word")
+    }
+}
+
+impl Error for UnknownOrder {}
 
 // A started job gives way to a more urgent one under `fp`, and does not under hold.
 pub fn preempts_unless_held()
