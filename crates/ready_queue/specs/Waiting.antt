@@ -1,12 +1,13 @@
 -- The waiting jobs as a list, the first one in front.
-use Rattle.std.specs.Prelude.{ℕ, cond, List, [], ◌∷◌, take, Some, None, Option, ◌≢◌}
-use Rattle.std.specs.List.{AllByRecursion}
+use Rattle.std.specs.Prelude.{ℕ, List, [], ◌∷◌, Option, ◌≢◌}
+use Rattle.std.specs.List.{find, AllByRecursion}
+use Rattle.precedence.specs.Bounded.{records}
 use Rattle.jobs.specs.declared.job.Job.{Job}
 use Rattle.jobs.specs.Jobs.{late, worked}
 use Rattle.ready_queue.specs.declared.queue.ReadyQueue.{ReadyQueue}
 
 abbrev pub waiting : ReadyQueue → List Job
-waiting q = take q.len q.slots
+waiting q = records q.jobs
 
 -- all but the first
 abbrev pub rest : List Job → List Job
@@ -20,8 +21,7 @@ serve_first (j ∷ js) = worked j ∷ js
 
 -- the first in the queue's order that is late at a tick
 abbrev pub first_late : ℕ → List Job → Option Job
-first_late t [] = None
-first_late t (j ∷ js) = cond (late t j) (Some j) (first_late t js)
+first_late t = find (late t)
 
 -- no job of the list has this one's number
 abbrev pub NewNumber : Job → List Job → Type 0

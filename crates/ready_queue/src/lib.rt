@@ -11,17 +11,15 @@ pub mod queue;
 
 use jobs::Order;
 use jobs::job::{Job, JobKey};
-use precedence::insert;
+use precedence::bounded::BoundedList;
 use queue::{QueueFull, ReadyQueue};
 
 impl ReadyQueue {
     pub fn new() -> Self
         ensures { waiting result ≡ [] }
     {
-        let none = Job::released(0, 0, 0, 0, 0, 0);
         ReadyQueue {
-            slots: [none; 32],
-            len: 0,
+            jobs: BoundedList::empty(Job::released(0, 0, 0, 0, 0, 0)),
         }
     }
 
@@ -29,18 +27,14 @@ impl ReadyQueue {
     pub fn len(&self) -> usize
         ensures { result ≡ length (waiting self.now) }
     {
-        self.len
+        self.jobs.len()
     }
 
     // The job at a place of the queue, counted from 0.
     pub fn get(&self, place: usize) -> Option<Job>
         ensures { result ≡ slice_get (waiting self.now) place }
     {
-        if place < self.len {
-            Some(self.slots[place])
-        } else {
-            None
-        }
+        self.jobs.get(place)
     }
 
     // The job that the processor serves next.
@@ -48,70 +42,39 @@ impl ReadyQueue {
         ensures value { result ≡ slice_get (waiting self.now) 0 }
         ensures leads { Leads (waiting self.now) result }
     {
-        self.get(0)
+        self.jobs.first()
     }
 
     // The first job that is past its deadline at a tick.
     pub fn first_late(&self, tick: u32) -> Option<Job>
         ensures { result ≡ first_late tick (waiting self.now) }
     {
-        for i in 0..self.len {
-            let job = self.slots[i];
-            if job.is_late(tick) {
-                return Some(job);
-            }
-        }
-        None
+        self.jobs
+            .as_slice()
+            .iter()
+            .copied()
+            .find(|job| job.is_late(tick))
     }
 
     // Puts a job among those that wait. Where 32 wait, it is handed back and the queue stays.
     pub fn release<O: Order>(&mut self, order: &O, job: Job) -> Result<(), QueueFull>
         ensures { Releases (job_before (O.Precedence.before order.now)) job (waiting self.old) (waiting self.new) result }
     {
-        let mut slots = self.slots;
-        let len = self.len;
-        match insert(order, &mut slots, len, job) {
-            Ok(()) => {
-                *self = ReadyQueue {
-                    slots,
-                    len: len + 1,
-                };
-                Ok(())
-            }
-            Err(job) => Err(QueueFull(job)),
-        }
+        self.jobs.insert(order, job).map_err(QueueFull)
     }
 
     // One tick of the processor: the first job works, and is answered as it was before.
     pub fn serve(&mut self) -> Option<Job>
         ensures { Serves (waiting self.old) (waiting self.new) result }
     {
-        let len = self.len;
-        if len == 0 {
-            return None;
-        }
-        let mut slots = self.slots;
-        let job = slots[0];
-        slots[0] = job.worked();
-        *self = ReadyQueue { slots, len };
-        Some(job)
+        let first = self.jobs.first()?;
+        self.jobs.replace_first(first.worked())
     }
 
     // Takes the first job out.
     pub fn remove_first(&mut self) -> Option<Job>
         ensures { Leaves (waiting self.old) (waiting self.new) result }
     {
-        let len = self.len;
-        if len == 0 {
-            return None;
-        }
-        let mut slots = self.slots;
-        let job = slots[0];
-        slots.copy_within(1..len, 0);
-        *self = ReadyQueue {
-            slots,
-            len: len - 1,
-        };
-        Some(job)
+        self.jobs.remove_first()
     }
 }

@@ -4,7 +4,5 @@ use Rattle.ready_queue.specs.Calls.{Leads}
 use Rattle.ready_queue.proofs.Lists.{leads}
 use Rattle.ready_queue.proofs.queue.ReadyQueue.first.Goals as goal
 
-pub returns : goal.returns
-returns c =
-    let js = waiting c.args.self.now in
-    record { value = c.get.ensures; leads = subst (Leads js) (sym c.get.ensures) (leads js) }
+pub returns-clause-leads : goal.returns-clause-leads
+returns-clause-leads c = let js = waiting c.args.self.now in subst (Leads js) (sym c.first.ensures) (leads js)
