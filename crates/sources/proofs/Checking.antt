@@ -1,44 +1,15 @@
 -- The check of a table's records: the search for a tick that is over the last one, and for one that falls.
-use Rattle.std.proofs.Common.{◌≡◌, ℕ, zero, suc, ◌+◌, ◌<◌, ◌≤◌, Bool, true, false, ◌&&◌, leb, List, [], ◌∷◌, length, get_or, drop, Some, Ok, Err, sym, refl, ap, ◌∙◌, ⊎_elim, arith}
-use Rattle.std.specs.List.{slice_get}
-use Rattle.std.proofs.lemmas.List.{at_drop_more, at_drop_all, drop_all}
-use Rattle.std.proofs.lemmas.Bool.{cases_Bool, both_ways, and_parts, and_from, and_cases, and_left, and_right, not_from_true, not_from_false, leb-false, lt-leb, le-leb, ltb-true, ltb-false, lt-ltb}
+use Rattle.std.proofs.Common.{◌≡◌, ℕ, zero, suc, ◌+◌, ◌<◌, Bool, true, false, ◌&&◌, leb, List, [], ◌∷◌, get_or, Some, Ok, Err, sym, refl, ap, ◌∙◌, ⊎_elim, arith}
+use Rattle.std.specs.List.{slice_get, IsAllAdjacentAnswer}
+use Rattle.std.proofs.lemmas.Option.{slice_get_within, slice_get-get_or, get_or_from_slice_get}
+use Rattle.std.proofs.lemmas.Bool.{cases_Bool, both_ways, and_parts, and_from, and_cases, and_left, and_right, not_from_true, not_from_false, leb-true, leb-false, lt-leb, ltb-true, lt-ltb}
 use Rattle.precedence.specs.Sorted.{none_before, in_order, InOrder}
 use Rattle.precedence.proofs.Order.{none_below}
 use Rattle.sources.specs.declared.trigger.Trigger.{Trigger}
 use Rattle.sources.specs.declared.trigger.TableFault.TheVariants.{TickOver, TickFalls}
-use Rattle.sources.specs.Lists.{last_tick, earlier, all_within, TriggerList}
+use Rattle.sources.specs.Lists.{last_tick, earlier, all_within}
 use Rattle.sources.specs.Members.{earlier_lawful}
-use Rattle.sources.specs.Tables.{SomeOver, SomeFall, Checked, Tabled}
-
--- each tick is at least the one before it, the first at least `last`
-abbrev pub rising : ℕ → List Trigger → Bool
-rising last [] = true
-rising last (t ∷ ts) = leb last t.tick && rising t.tick ts
-
-rising_in_order : (t : Trigger) (ts : List Trigger) → rising t.tick ts ≡ in_order earlier (t ∷ ts)
-rising_in_order t [] = refl
-rising_in_order t (u ∷ us) =
-    ⊎_elim
-    (λ (h : earlier u t ≡ true).
-    and_left _ _ (lt-leb _ _ (ltb-true u.tick t.tick h)) ∙ sym (and_left _ _ (and_left _ _ (not_from_true _ h))))
-    (λ (h : earlier u t ≡ false).
-    let l : leb t.tick u.tick ≡ true = le-leb _ _ (ltb-false u.tick t.tick h) in
-    let r = rising_in_order u us in
-    ⊎_elim
-    (λ (n : none_before earlier u us ≡ true).
-    let m : none_before earlier t us ≡ true = none_below earlier earlier_lawful t u us h n in
-    simp (l, h, m) r)
-    (λ (n : none_before earlier u us ≡ false).
-    simp (l, r, n) (sym (and_right _ _ refl)))
-    (cases_Bool (none_before earlier u us)))
-    (cases_Bool (earlier u t))
-
-pub rising_all : (ts : List Trigger) → rising 0 ts ≡ in_order earlier ts
-rising_all [] = refl
-rising_all (t ∷ ts) =
-    let l : leb 0 t.tick ≡ true = le-leb 0 t.tick (omega arith) in
-    simp l (rising_in_order t ts)
+use Rattle.sources.specs.Tables.{SomeOver, SomeFall, Checked}
 
 pub over_found : (ts : List Trigger) → all_within ts ≡ false → SomeOver ts
 over_found [] h = absurd (both_ways true h refl)
@@ -115,27 +86,24 @@ module _ (ts : List Trigger) where
     passes = (λ _. record { ordered = s; within = w }, λ _. refl);
   }
 
--- the search, with the records before place i passed
-module _ (ts : List Trigger) (i : ℕ) (d : Trigger) where
-  pub over_here : i < length ts → leb (get_or ts i d).tick last_tick ≡ false → all_within (drop i ts) ≡ all_within ts → all_within ts ≡ false
-  over_here h o inv = sym inv ∙ (at_drop_more all_within ts i d h ∙ and_left _ _ o)
+-- what the library's search for a fall answers
+blank : Trigger
+blank = record { tick = 0; number = 0 }
 
-  pub within_further : i < length ts → leb (get_or ts i d).tick last_tick ≡ true → all_within (drop i ts) ≡ all_within ts → all_within (drop (i + 1) ts) ≡ all_within ts
-  within_further h w inv = ap (λ b. b && all_within (drop (i + 1) ts)) (sym w) ∙ (sym (at_drop_more all_within ts i d h) ∙ inv)
-
-  pub falls_here : (last : ℕ) → i < length ts → (get_or ts i d).tick < last → rising last (drop i ts) ≡ rising 0 ts → in_order earlier ts ≡ false
-  falls_here last h f inv = sym (rising_all ts) ∙ (sym inv ∙ (at_drop_more (rising last) ts i d h ∙ and_left _ _ (lt-leb _ _ f)))
-
-  pub rising_further : (last : ℕ) → i < length ts → last ≤ (get_or ts i d).tick → rising last (drop i ts) ≡ rising 0 ts → rising (get_or ts i d).tick (drop (i + 1) ts) ≡ rising 0 ts
-  rising_further last h r inv = ap (λ b. b && rising (get_or ts i d).tick (drop (i + 1) ts)) (sym (le-leb _ _ r)) ∙ (sym (at_drop_more (rising last) ts i d h) ∙ inv)
-
-module _ (ts : List Trigger) (i : ℕ) (h : length ts ≤ i) where
-  pub within_all : all_within (drop i ts) ≡ all_within ts → all_within ts ≡ true
-  within_all inv = sym inv ∙ at_drop_all all_within ts i h
-
-  pub rising_to_end : (last : ℕ) → rising last (drop i ts) ≡ rising 0 ts → in_order earlier ts ≡ true
-  rising_to_end last inv = sym (rising_all ts) ∙ (sym inv ∙ at_drop_all (rising last) ts i h)
-
--- the table of records that do not pass
-pub table_empty : (ts : List Trigger) → (TriggerList ts → ⊥) → Tabled ts (drop (length ts) ts)
-table_empty ts f = record { exact = λ v. absurd (f v); empty = λ _. drop_all (length ts) ts (omega arith) }
+pub sorted_is : (ts : List Trigger) (r : Bool) → IsAllAdjacentAnswer (λ x y b. b ≡ leb x.tick y.tick) ts r → r ≡ in_order earlier ts
+sorted_is ts true h =
+    ⊎_elim
+    (λ (t : in_order earlier ts ≡ true). sym t)
+    (λ (f : in_order earlier ts ≡ false).
+    let o = fall_found ts f in
+    let next : slice_get ts (o.place + 1) ≡ Some o.after = ap (slice_get ts) (omega arith) ∙ o.next in
+    let within = slice_get_within ts (o.place + 1) o.after next in
+    let rises : leb (get_or ts o.place blank).tick (get_or ts (o.place + 1) blank).tick ≡ true = sym (h o.place blank within) in
+    let a : (get_or ts o.place blank).tick ≡ o.before.tick = ap (λ (t : Trigger). t.tick) (get_or_from_slice_get ts o.place o.before blank o.there) in
+    let b : (get_or ts (o.place + 1) blank).tick ≡ o.after.tick = ap (λ (t : Trigger). t.tick) (get_or_from_slice_get ts (o.place + 1) o.after blank next) in
+    absurd (omega (arith, leb-true _ _ rises, a, b, o.falls)))
+    (cases_Bool (in_order earlier ts))
+sorted_is ts false h =
+    let k = h.0 in
+    let falls : leb (get_or ts k blank).tick (get_or ts (k + 1) blank).tick ≡ false = sym (h.2 blank) in
+    sym (fall_at ts k (get_or ts k blank) (get_or ts (k + 1) blank) (slice_get-get_or ts k blank (omega (arith, h.1))) (ap (slice_get ts) (omega arith) ∙ slice_get-get_or ts (k + 1) blank h.1) (leb-false _ _ falls))

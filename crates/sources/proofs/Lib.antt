@@ -1,3 +1,3 @@
-pub mod Lists
+pub mod Trays
 pub mod Checking
 pub mod Merging

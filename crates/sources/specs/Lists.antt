@@ -1,5 +1,6 @@
 -- The lists of triggers that sources stand for.
-use Rattle.std.specs.Prelude.{◌≡◌, ℕ, Bool, true, ◌&&◌, List, [], ◌∷◌, Some, None, Option, nat_le, nat_lt}
+use Rattle.std.specs.Prelude.{◌≡◌, ℕ, Bool, true, List, [], ◌∷◌, Some, None, Option, nat_le, nat_lt}
+use Rattle.std.specs.List.{list_all}
 use Rattle.precedence.specs.Sorted.{InOrder}
 use Rattle.sources.specs.declared.trigger.Trigger.{Trigger}
 
@@ -12,8 +13,7 @@ abbrev pub earlier : Trigger → Trigger → Bool
 earlier a b = nat_lt a.tick b.tick
 
 abbrev pub all_within : List Trigger → Bool
-all_within [] = true
-all_within (t ∷ ts) = nat_le t.tick last_tick && all_within ts
+all_within = list_all (λ t. nat_le t.tick last_tick)
 
 -- what a source stands for: the ticks never fall, and none is over the last tick
 pub record TriggerList (ts : List Trigger) : Type 0 where

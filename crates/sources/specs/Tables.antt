@@ -1,5 +1,5 @@
 -- When records make a table, and what it gives.
-use Rattle.std.specs.Prelude.{◌≡◌, ℕ, suc, ◌<◌, true, ◌↔◌, List, [], drop, Some, Ok, Err, Result}
+use Rattle.std.specs.Prelude.{◌≡◌, ℕ, suc, ◌<◌, true, ◌↔◌, List, [], Some, Ok, Err, Result}
 use Rattle.std.specs.List.{slice_get}
 use Rattle.sources.specs.declared.trigger.Trigger.{Trigger}
 use Rattle.sources.specs.declared.trigger.TableFault.{TableFault}
@@ -8,7 +8,7 @@ use Rattle.sources.specs.declared.table.Table.{Table}
 use Rattle.sources.specs.Lists.{last_tick, all_within, TriggerList}
 
 abbrev pub table_list : Table → List Trigger
-table_list t = drop t.taken t.rows.now
+table_list t = t.rows.now
 
 -- some tick, wherever it stands, is over the last tick
 pub record SomeOver (ts : List Trigger) : Type 0 where

@@ -1,5 +1,6 @@
 -- What a tray gives, and what a put does to it.
-use Rattle.std.specs.Prelude.{◌≡◌, ◌<◌, ◌≤◌, List, length, take, Ok, Err, Result}
+use Rattle.std.specs.Prelude.{◌≡◌, ◌<◌, ◌≤◌, List, length, Ok, Err, Result}
+use Rattle.precedence.specs.Bounded.{records}
 use Rattle.precedence.specs.Sorted.{put}
 use Rattle.precedence.specs.Insertion.{Inserted}
 use Rattle.sources.specs.declared.trigger.Trigger.{Trigger}
@@ -9,7 +10,7 @@ use Rattle.sources.specs.declared.tray.Tray.{Tray}
 use Rattle.sources.specs.Lists.{last_tick, earlier}
 
 abbrev pub tray_list : Tray → List Trigger
-tray_list t = take t.len t.slots
+tray_list t = records t.triggers
 
 -- The trigger is put behind those of the same or an earlier tick and before all later ones.
 -- A refused put changes nothing.

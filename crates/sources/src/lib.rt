@@ -13,11 +13,13 @@ ghost use Rattle.sources.specs.Tables.{table_list, Checked, Tabled};
 ghost use Rattle.sources.specs.Trays.{tray_list, Puts};
 ghost use Rattle.std.proofs.Common.{rules};
 
+mod fault;
 pub mod table;
 pub mod tray;
 pub mod trigger;
 
-use precedence::{Keyed, OwnOrder, Ranked, insert};
+use precedence::bounded::BoundedList;
+use precedence::{Keyed, OwnOrder, Ranked};
 use table::Table;
 use tray::Tray;
 use trigger::{PutFault, TableFault, Tick, Trigger};
@@ -65,25 +67,13 @@ fn is_within(tick: u32) -> bool
 fn ticks_within(rows: &[Trigger]) -> bool
     ensures { result ≡ all_within rows.now }
 {
-    for row in rows {
-        if !is_within(row.tick) {
-            return false;
-        }
-    }
-    true
+    rows.iter().all(|row| is_within(row.tick))
 }
 
 fn ticks_in_order(rows: &[Trigger]) -> bool
     ensures { result ≡ in_order earlier rows.now }
 {
-    let mut last = 0;
-    for row in rows {
-        if row.tick < last {
-            return false;
-        }
-        last = row.tick;
-    }
-    true
+    rows.is_sorted_by(|a, b| a.tick <= b.tick)
 }
 
 impl<'a> Table<'a> {
@@ -104,13 +94,10 @@ impl<'a> Table<'a> {
     pub fn new(rows: &'a [Trigger]) -> Table<'a>
         ensures { Tabled rows.now (table_list result) }
     {
-        if let Err(_) = Table::check(rows) {
-            return Table {
-                rows,
-                taken: rows.len(),
-            };
+        match Table::check(rows) {
+            Ok(()) => Table { rows },
+            Err(_) => Table { rows: &[] },
         }
-        Table { rows, taken: 0 }
     }
 }
 
@@ -120,16 +107,12 @@ impl Source for Table<'_> {
     ghost valid = { λ t. record { ordered = t.ordered; within = t.within } };
 
     fn next(&self) -> Option<Trigger> {
-        if self.taken < self.rows.len() {
-            Some(self.rows[self.taken])
-        } else {
-            None
-        }
+        self.rows.first().copied()
     }
 
     fn remove(&mut self) {
-        if self.taken < self.rows.len() {
-            self.taken += 1;
+        if let [_, rest @ ..] = self.rows {
+            self.rows = rest;
         }
     }
 }
@@ -157,8 +140,7 @@ impl Tray {
         ensures { tray_list result ≡ [] }
     {
         Tray {
-            slots: [Trigger { tick: 0, number: 0 }; 32],
-            len: 0,
+            triggers: BoundedList::empty(Trigger { tick: 0, number: 0 }),
         }
     }
 
@@ -169,18 +151,9 @@ impl Tray {
         if !is_within(tick) {
             return Err(PutFault::TickOver);
         }
-        let mut slots = self.slots;
-        let len = self.len;
-        match insert(&OwnOrder, &mut slots, len, Trigger { tick, number }) {
-            Ok(()) => {
-                *self = Tray {
-                    slots,
-                    len: len + 1,
-                };
-                Ok(())
-            }
-            Err(_) => Err(PutFault::Full),
-        }
+        self.triggers
+            .insert(&OwnOrder, Trigger { tick, number })
+            .map_err(|_| PutFault::Full)
     }
 }
 
@@ -190,23 +163,11 @@ impl Source for Tray {
     ghost valid = { λ t. record { ordered = t.ordered; within = t.within } };
 
     fn next(&self) -> Option<Trigger> {
-        if self.len == 0 {
-            None
-        } else {
-            Some(self.slots[0])
-        }
+        self.triggers.first()
     }
 
     fn remove(&mut self) {
-        let len = self.len;
-        if len > 0 {
-            let mut slots = self.slots;
-            slots.copy_within(1..len, 0);
-            *self = Tray {
-                slots,
-                len: len - 1,
-            };
-        }
+        let _ = self.triggers.remove_first();
     }
 }
 
