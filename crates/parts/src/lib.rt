@@ -56,7 +56,7 @@ impl Refers for Condition {
         match *self {
             Condition::Clock(clock, _, k) => clock < clocks && k <= LAST_TICK,
             Condition::Difference(first, second, _, k) => {
-                first < clocks && second < clocks && -1_000_000_000 <= k && k <= 1_000_000_000
+                first < clocks && second < clocks && (-1_000_000_000..=1_000_000_000).contains(&k)
             }
             Condition::Variable(variable, _, _) => (variable as usize) < scope.variables,
         }
@@ -96,10 +96,7 @@ pub fn group_fits<T: Refers>(row: &[Option<T>], scope: &Scope) -> bool
         match part {
             None => over = true,
             Some(x) => {
-                if over {
-                    return false;
-                }
-                if !x.fits_in(scope) {
+                if over || !x.fits_in(scope) {
                     return false;
                 }
             }
@@ -112,8 +109,7 @@ impl Counts {
     pub fn fit(&self) -> bool
         ensures { result ≡ counts_fit self.now }
     {
-        1 <= self.automata
-            && self.automata <= 8
+        (1..=8).contains(&self.automata)
             && self.clocks <= 16
             && self.triggers <= 16
             && self.channels <= 8
@@ -124,7 +120,7 @@ impl Variable {
     pub fn fits(&self) -> bool
         ensures { result ≡ variable_fits self.now }
     {
-        self.low <= self.start && self.start <= self.high
+        (self.low..=self.high).contains(&self.start)
     }
 }
 
@@ -135,8 +131,7 @@ impl Label {
         match *self {
             Label::Internal => true,
             Label::Trigger(n) => n < scope.counts.triggers,
-            Label::Send(n) => n < scope.counts.channels,
-            Label::Receive(n) => n < scope.counts.channels,
+            Label::Send(n) | Label::Receive(n) => n < scope.counts.channels,
         }
     }
 }
@@ -145,8 +140,7 @@ impl Task {
     pub fn fits(&self, scope: &Scope) -> bool
         ensures { result ≡ task_fits scope.now self.now }
     {
-        1 <= self.cost
-            && self.cost <= self.deadline
+        (1..=self.deadline).contains(&self.cost)
             && self.deadline <= 1_000_000
             && group_fits(&self.assignments, scope)
     }
