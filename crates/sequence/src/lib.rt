@@ -13,6 +13,7 @@ ghost use Rattle.sequence.specs.Rebuilding.{EverySequenceIsBuilt};
 pub mod draft;
 pub mod group;
 pub mod grow;
+mod grows;
 pub mod memory;
 pub mod whole;
 
