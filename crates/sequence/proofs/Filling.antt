@@ -1,5 +1,5 @@
 -- The walks over a group and to the last of a list, and what a draft accepts for its last part.
-use Rattle.std.proofs.Common.{◌≡◌, ℕ, suc, ◌+◌, ◌-◌, ◌<◌, ◌≤◌, Bool, true, false, List, [], ◌∷◌, ◌++◌, cond, length, get_or, set, is_some, is_none, Some, None, Ok, Err, Option, Result, sym, refl, ap, ◌∙◌, subst, arith}
+use Rattle.std.proofs.Common.{◌≡◌, ℕ, suc, ◌+◌, ◌-◌, ◌<◌, ◌≤◌, Bool, true, false, List, [], ◌∷◌, cond, length, get_or, set, is_some, is_none, Some, None, Ok, Err, Option, Result, sym, refl, ap, ◌∙◌, subst, arith}
 use Rattle.std.specs.List.{slice_get, count_by, position, position_or_len}
 use Rattle.std.proofs.lemmas.List.Recursion.{is_count_by}
 use Rattle.std.proofs.lemmas.Grind.{common_steps}
@@ -16,10 +16,12 @@ use Rattle.parts.specs.declared.part.Edge.{Edge}
 use Rattle.parts.specs.declared.part.Rule.{Rule}
 use Rattle.parts.specs.declared.part.Rule.TheVariants.{TooMany, BadTask, BadLocation, BadEdge}
 use Rattle.parts.specs.Limits.{assignment_fits, reset_fits, invariant_fits, condition_fits}
-use Rattle.sequence.specs.Plan.{Plan, scope, sound}
+use Rattle.sequence.specs.Plan.{Plan, scope, reached, sound}
 use Rattle.sequence.specs.Building.{none}
 use Rattle.sequence.specs.Model.{Adds}
 use Rattle.sequence.specs.Growing.{used, fill, last_of, change_last, has_room, assigning_task, limited, guarded, resetting, assigning_edge, with_last_task, with_last_location, with_last_edge, grown, last_grown, Grows, add_task_assignment, add_invariant, add_condition, add_reset, add_edge_assignment}
+use Rattle.sequence.proofs.Sound.{reached_push}
+use Rattle.sequence.proofs.Growing.{ends_in}
 
 -- ---- the places of a group
 
@@ -93,6 +95,23 @@ module _ {X : Type 0} (xs : List X) (n : ℕ) (x : X) (len : n ≡ length xs) (t
 
   pub last_changed : (f : X → X) (y : X) → y ≡ f x → set xs (n - 1) y ≡ change_last f xs
   last_changed f y e = put_is f xs (set xs (n - 1) y) x y last_read e (ap (λ k. set xs (k - 1) y) len ∙ set_last xs y)
+
+-- the last location tells how many automata are reached
+no_last : (l : Location) (ls : List Location) → None ≡ last_of (l ∷ ls) → ⊥
+no_last l [] e = let w : ◌≡◌ {A = ℕ} 0 1 = cc in omega arith
+no_last l (k ∷ ks) e = no_last k ks e
+
+reached_empty : (ls : List Location) → None ≡ last_of ls → 0 ≡ reached 0 ls
+reached_empty [] e = refl
+reached_empty (l ∷ ls) e = absurd (no_last l ls e)
+
+abbrev pub reached_by : Option Location → ℕ
+reached_by None = 0
+reached_by (Some l) = l.automaton + 1
+
+pub reached_last : (ls : List Location) (o : Option Location) → o ≡ last_of ls → reached_by o ≡ reached 0 ls
+reached_last ls None e = reached_empty ls e
+reached_last ls (Some l) e = let x = ends_in ls l (sym e) in sym (ap (reached 0) x.whole ∙ reached_push 0 x.front l)
 
 -- ---- what is accepted
 

@@ -18,6 +18,7 @@ pub mod memory;
 pub mod whole;
 
 use draft::Draft;
+use group::last;
 use memory::Memory;
 use parts::item;
 use parts::part::{Counts, Edge, Location, Rule, Scope, Task, Variable};
@@ -103,7 +104,7 @@ impl Draft {
     pub fn finish(self) -> Result<Sequence, Draft>
         ensures { MatchResult result (λ s. (plan s ≡ plan_of self) × (complete (plan_of self) ≡ true)) (λ d. (d ≡ self) × (complete (plan_of self) ≡ false)) }
     {
-        if self.reached() != self.counts.automata as u16 {
+        if !self.is_complete() {
             return Err(self);
         }
         Ok(Sequence { draft: self })
@@ -152,7 +153,7 @@ impl Draft {
     pub fn add_variable(&mut self, variable: Variable) -> Result<(), Rule>
         ensures { Adds (add_variable (plan_of self.old) variable) (plan_of self.old) (plan_of self.new) result }
     {
-        if self.tasks.len() != 0 || self.locations.len() != 0 || self.edges.len() != 0 {
+        if !self.tasks.is_empty() || !self.locations.is_empty() || !self.edges.is_empty() {
             return Err(Rule::OutOfTurn);
         }
         if self.variables.len() >= 16 {
@@ -169,7 +170,7 @@ impl Draft {
     pub fn add_task(&mut self, task: Task) -> Result<(), Rule>
         ensures { Adds (add_task (plan_of self.old) task) (plan_of self.old) (plan_of self.new) result }
     {
-        if self.locations.len() != 0 || self.edges.len() != 0 {
+        if !self.locations.is_empty() || !self.edges.is_empty() {
             return Err(Rule::OutOfTurn);
         }
         if self.tasks.len() >= 16 {
@@ -186,7 +187,7 @@ impl Draft {
     pub fn add_location(&mut self, location: Location) -> Result<(), Rule>
         ensures { Adds (add_location (plan_of self.old) location) (plan_of self.old) (plan_of self.new) result }
     {
-        if self.edges.len() != 0 {
+        if !self.edges.is_empty() {
             return Err(Rule::OutOfTurn);
         }
         if self.locations.len() >= 64 {
@@ -223,14 +224,7 @@ impl Draft {
     fn reached(&self) -> u16
         ensures { result ≡ reached 0 self.now.locations.items }
     {
-        let count = self.locations.len();
-        if count == 0 {
-            return 0;
-        }
-        match item(&self.locations, count - 1) {
-            None => 0,
-            Some(location) => location.automaton as u16 + 1,
-        }
+        last(&self.locations).map_or(0, |location| location.automaton as u16 + 1)
     }
 
     // Whether the next location may be of an automaton.
@@ -247,20 +241,15 @@ impl Draft {
     fn automaton_of(&self, location: u8) -> Option<u8>
         ensures { result ≡ automaton_of (slice_get self.now.locations.items location) }
     {
-        match item(&self.locations, location as usize) {
-            None => None,
-            Some(location) => Some(location.automaton),
-        }
+        item(&self.locations, location as usize).map(|location| location.automaton)
     }
 
     // Whether both ends of an edge are locations of one automaton.
     fn ends_fit(&self, edge: &Edge) -> bool
         ensures { result ≡ ends_fit self.now.locations.items edge.now }
     {
-        match (self.automaton_of(edge.from), self.automaton_of(edge.to)) {
-            (Some(a), Some(b)) => a == b,
-            _ => false,
-        }
+        let from = self.automaton_of(edge.from);
+        from.is_some() && from == self.automaton_of(edge.to)
     }
 }
 

@@ -1,4 +1,4 @@
-use Rattle.std.proofs.Common.{sym, ap, ◌∙◌}
+use Rattle.std.proofs.Common.{◌∙◌}
 use Rattle.sequence.proofs.Filling.{nth_last}
 use Rattle.sequence.proofs.group.last.Goals as goal
 

@@ -1,6 +1,5 @@
-use Rattle.std.proofs.Common.{◌≡◌, ◌-◌, ◌<◌, length, get_or, sym, ap, ◌∙◌, arith}
+use Rattle.std.proofs.Common.{◌≡◌, length, sym, arith}
 use Rattle.std.specs.Vec.{vec_len}
-use Rattle.sequence.specs.Growing.{change_last}
 use Rattle.sequence.proofs.Filling.{grown_ok, grown_full, grown_unfit, last_read, last_kept, last_changed}
 use Rattle.sequence.proofs.grows.grow_last.Goals as goal
 

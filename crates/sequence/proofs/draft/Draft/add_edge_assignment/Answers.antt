@@ -1,4 +1,4 @@
-use Rattle.std.proofs.Common.{◌≡◌, length, ap, arith}
+use Rattle.std.proofs.Common.{ap, arith}
 use Rattle.parts.specs.declared.part.Edge.{Edge}
 use Rattle.parts.specs.declared.part.Rule.TheVariants.{BadEdge}
 use Rattle.parts.specs.Limits.{assignment_fits}

@@ -1,5 +1,5 @@
 use Rattle.std.proofs.Common.{◌≡◌, length, sym, ap, arith}
-use Rattle.std.proofs.lemmas.Bool.{and_from, cond-true, eqb-true}
+use Rattle.std.proofs.lemmas.Bool.{cond-true, eqb-true}
 use Rattle.parts.specs.declared.part.Location.{Location}
 use Rattle.parts.specs.declared.part.Rule.TheVariants.{BadLocation}
 use Rattle.parts.specs.Limits.{invariant_fits}

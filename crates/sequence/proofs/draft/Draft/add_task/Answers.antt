@@ -1,4 +1,5 @@
 use Rattle.std.proofs.Common.{◌≡◌, ◌<◌, true, List, length, sym, ap, ◌∙◌, subst, arith}
+use Rattle.std.proofs.lemmas.Bool.{eqb-true}
 use Rattle.parts.specs.declared.part.Task.{Task}
 use Rattle.parts.specs.Limits.{task_fits}
 use Rattle.sequence.specs.Plan.{sound, scope}
@@ -10,8 +11,8 @@ pub invariant_of-self : goal.invariant_of-self
 invariant_of-self c =
     let d = c.args.self.now in
     let p = plan_of d in
-    let l : length p.locations ≡ 0 = omega (arith, d.locations.ok.0) in
-    let e : length p.edges ≡ 0 = omega (arith, d.edges.ok.0) in
+    let l : length p.locations ≡ 0 = omega (arith, d.locations.ok.0, eqb-true _ _ (sym c.if-not-is_empty.ensures)) in
+    let e : length p.edges ≡ 0 = omega (arith, d.edges.ok.0, eqb-true _ _ (sym c.if-not-is_empty-2.ensures)) in
     let few : length p.tasks < 16 = omega (arith, d.tasks.ok.0) in
     let fits : task_fits (scope p) c.args.task ≡ true = sym (ap (λ s. task_fits s c.args.task) c.scope.ensures) ∙ sym c.if-not-fits.ensures in record {
       valid = subst (λ (xs : List Task). sound (record { counts = p.counts; variables = p.variables; tasks = xs; locations = p.locations; edges = p.edges }) ≡ true)
