@@ -8,6 +8,8 @@ use Rattle.parts.specs.declared.part.Task.{Task}
 use Rattle.parts.specs.declared.part.Location.{Location}
 use Rattle.parts.specs.declared.part.Edge.{Edge}
 use Rattle.parts.specs.Limits.{counts_fit, variable_fits, task_fits, location_fits, edge_fits}
+use Rattle.sequence.specs.declared.lists.Lists.{Lists}
+use Rattle.sequence.specs.Listed.{Empty, plan_at}
 use Rattle.sequence.specs.Plan.{Plan, scope, each, ends_fit, reached, next_of, in_turn, sound}
 use Rattle.sequence.specs.Building.{begun, with_variable, with_task, with_location, with_edge, next_automaton}
 
@@ -148,13 +150,8 @@ pub reached_none : (ls : List Location) → length ls ≡ 0 → 0 ≡ reached 0 
 reached_none ls h = sym (ap (reached 0) (nil_from_length ls h))
 
 -- nothing but counts
-pub begun_is : (k : Counts) (vs : List Variable) (ts : List Task) (ls : List Location) (es : List Edge) → length vs ≡ 0 → length ts ≡ 0 → length ls ≡ 0 → length es ≡ 0 → begun k ≡ record { counts = k; variables = vs; tasks = ts; locations = ls; edges = es }
-begun_is k vs ts ls es v t l e =
-    let a = nil_from_length vs v in
-    let b = nil_from_length ts t in
-    let c = nil_from_length ls l in
-    let d = nil_from_length es e in
-    simp (a, b, c, d)
+pub begun_at : (k : Counts) (l : Lists) → Empty l → begun k ≡ plan_at k l
+begun_at k l e = simp (e.variables, e.tasks, e.locations, e.edges)
 
 pub begun_sound : (k : Counts) → counts_fit k ≡ true → sound (begun k) ≡ true
 begun_sound k h = sound_from (begun k) (record {

@@ -12,22 +12,27 @@ impl Draft {
     pub fn add_task_assignment(&mut self, assignment: Assignment) -> Result<(), Rule>
         ensures { Adds (add_task_assignment (plan_of self.old) assignment) (plan_of self.old) (plan_of self.new) result }
     {
-        if !self.locations.is_empty() || !self.edges.is_empty() {
+        if !self.lists.locations.is_empty() || !self.lists.edges.is_empty() {
             return Err(Rule::OutOfTurn);
         }
         let scope = self.scope();
-        grow_last(&mut self.tasks, assignment, &scope, Rule::BadTask)
+        grow_last(&mut self.lists.tasks, assignment, &scope, Rule::BadTask)
     }
 
     // One invariant more for the last location, while there are no edges.
     pub fn add_invariant(&mut self, invariant: Invariant) -> Result<(), Rule>
         ensures { Adds (add_invariant (plan_of self.old) invariant) (plan_of self.old) (plan_of self.new) result }
     {
-        if !self.edges.is_empty() {
+        if !self.lists.edges.is_empty() {
             return Err(Rule::OutOfTurn);
         }
         let scope = self.scope();
-        grow_last(&mut self.locations, invariant, &scope, Rule::BadLocation)
+        grow_last(
+            &mut self.lists.locations,
+            invariant,
+            &scope,
+            Rule::BadLocation,
+        )
     }
 
     // One condition more for the last edge.
@@ -35,7 +40,7 @@ impl Draft {
         ensures { Adds (add_condition (plan_of self.old) condition) (plan_of self.old) (plan_of self.new) result }
     {
         let scope = self.scope();
-        grow_last(&mut self.edges, condition, &scope, Rule::BadEdge)
+        grow_last(&mut self.lists.edges, condition, &scope, Rule::BadEdge)
     }
 
     // One clock more that the last edge zeroes.
@@ -43,7 +48,7 @@ impl Draft {
         ensures { Adds (add_reset (plan_of self.old) reset) (plan_of self.old) (plan_of self.new) result }
     {
         let scope = self.scope();
-        grow_last(&mut self.edges, reset, &scope, Rule::BadEdge)
+        grow_last(&mut self.lists.edges, reset, &scope, Rule::BadEdge)
     }
 
     // One assignment more for the last edge.
@@ -51,6 +56,6 @@ impl Draft {
         ensures { Adds (add_edge_assignment (plan_of self.old) assignment) (plan_of self.old) (plan_of self.new) result }
     {
         let scope = self.scope();
-        grow_last(&mut self.edges, assignment, &scope, Rule::BadEdge)
+        grow_last(&mut self.lists.edges, assignment, &scope, Rule::BadEdge)
     }
 }
