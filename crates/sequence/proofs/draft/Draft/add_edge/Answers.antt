@@ -10,9 +10,12 @@ pub invariant_of-self : goal.invariant_of-self
 invariant_of-self c =
     let d = c.args.self.now in
     let p = plan_of d in
-    let few : length p.edges < 128 = omega (arith, d.edges.ok.0) in
-    let fits : edge_fits (scope p) c.args.edge ≡ true = sym (ap (λ s. edge_fits s c.args.edge) c.scope.ensures) ∙ sym c.if-not-fits.ensures in record {
-      valid = subst (λ (xs : List Edge). sound (record { counts = p.counts; variables = p.variables; tasks = p.tasks; locations = p.locations; edges = xs }) ≡ true)
-          (sym c.push_reserved.ensures.items) (edge_added p (sound_facts p d.valid) c.args.edge few fits (sym c.if-not-ends_fit.ensures));
-      room = (d.room.0, d.room.1, d.room.2, omega (arith, c.push_reserved.ensures.capacity, d.room.3));
-    }
+    let few : length p.edges < 128 = omega (arith, d.lists.edges.ok.0) in
+    let fits : edge_fits (scope p) c.args.edge ≡ true = sym (ap (λ s. edge_fits s c.args.edge) c.scope.ensures) ∙ sym c.if-not-fits.ensures in (
+      ((d.lists.room.0, d.lists.room.1, d.lists.room.2, omega (arith, c.push_reserved.ensures.capacity, d.lists.room.3)), tt),
+      (
+        subst (λ (xs : List Edge). sound (record { counts = p.counts; variables = p.variables; tasks = p.tasks; locations = p.locations; edges = xs }) ≡ true)
+            (sym c.push_reserved.ensures.items) (edge_added p (sound_facts p d.valid) c.args.edge few fits (sym c.if-not-ends_fit.ensures)),
+        tt,
+      ),
+    )
