@@ -1,19 +1,12 @@
-use Rattle.output.proofs.Room.{written_more, written_over}
+use Rattle.std.proofs.Common.{rules}
+use Rattle.output.proofs.Room.{written_more}
 use Rattle.output.proofs.OutSink.put.Goals as goal
 
-pub returns-in-Ok : goal.returns-in-Ok
-returns-in-Ok c =
+pub returns-else-is_err : goal.returns-else-is_err
+returns-else-is_err c =
     let o = c.args.self.now in
     let p = c.add.new.self in
     record {
-      further = λ start given h. written_more o.short o.len o.buf.now c.args.bytes.now p.short p.len p.buf.now start given c.in-Ok.ensures.added c.add.ensures.short h;
-      same = c.add.ensures.lender;
-    }
-
-pub returns-in-Err : goal.returns-in-Err
-returns-in-Err c =
-    let o = c.args.self.now in
-    record {
-      further = λ start given h. written_over o.short o.len o.buf.now c.args.bytes.now start given c.in-Err.ensures.added.0 h;
+      further = λ start given h. written_more o.len o.buf.now c.args.bytes.now p.len p.buf.now c.add.result start given c.add.ensures.added (search rules) h;
       same = c.add.ensures.lender;
     }
