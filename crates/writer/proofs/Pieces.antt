@@ -1,4 +1,4 @@
--- The text of lines in a row, and of one line as its pieces.
+-- The text of lines in a row.
 use Rattle.std.proofs.Common.{◌≡◌, ℕ, ◌+◌, ◌<◌, ◌≤◌, List, [], ◌∷◌, ◌++◌, map, length, get_or, take, Some, None, Option, sym, refl, ap, ◌∙◌, append_assoc, append-nil}
 use Rattle.std.specs.List.{flat_map}
 use Rattle.std.proofs.lemmas.List.{take_more, take_all}
@@ -11,22 +11,6 @@ use Rattle.writer.specs.Places.{place_items}
 pub text_append : (is js : List Item) → text_of (is ++ js) ≡ text_of is ++ text_of js
 text_append [] js = refl
 text_append (i ∷ is) js = ap (λ (x : List ℕ). line_of i ++ (10 ∷ x)) (text_append is js) ∙ sym (append_assoc (line_of i) (10 ∷ text_of is) (text_of js))
-
--- a line of one number
-pub one_piece : (k a : List ℕ) → k ++ ((61 ∷ []) ++ (a ++ (10 ∷ []))) ≡ (k ++ (61 ∷ a)) ++ (10 ∷ [])
-one_piece k a = simp append_assoc
-
--- a line of two fields
-pub two_pieces : (k a b : List ℕ) → k ++ (a ++ ((44 ∷ []) ++ (b ++ (10 ∷ [])))) ≡ (k ++ (a ++ (44 ∷ b))) ++ (10 ∷ [])
-two_pieces k a b = simp append_assoc
-
--- a line of three fields
-pub three_pieces : (k a b c : List ℕ) → k ++ (a ++ ((44 ∷ []) ++ (b ++ ((44 ∷ []) ++ (c ++ (10 ∷ [])))))) ≡ (k ++ (a ++ (44 ∷ (b ++ (44 ∷ c))))) ++ (10 ∷ [])
-three_pieces k a b c = simp append_assoc
-
--- a line of four fields
-pub four_pieces : (k a b c d : List ℕ) → k ++ (a ++ ((44 ∷ []) ++ (b ++ ((44 ∷ []) ++ (c ++ ((44 ∷ []) ++ (d ++ (10 ∷ [])))))))) ≡ (k ++ (a ++ (44 ∷ (b ++ (44 ∷ (c ++ (44 ∷ d))))))) ++ (10 ∷ [])
-four_pieces k a b c d = simp append_assoc
 
 -- lines behind lines
 pub gives_lines : {S : Type 0} {holds : S → List ℕ → List ℕ → Type 0} {lender : S → ℕ} {s t u : S} (is js : List Item) → Gives holds lender s (text_of is) t → Gives holds lender t (text_of js) u → Gives holds lender s (text_of (is ++ js)) u

@@ -1,10 +1,9 @@
-use Rattle.std.proofs.Common.{[], ◌∷◌, ◌++◌, map, codes, decimal}
+use Rattle.std.proofs.Common.{[], ◌∷◌, ◌++◌, map}
 use Rattle.sequence.specs.Growing.{used}
-use Rattle.lexical.specs.Fields.{label_text}
 use Rattle.lexical.specs.declared.key.Key.TheVariants.{Edge}
 use Rattle.grammar.specs.Writing.{condition_item, reset_item, assignment_item}
-use Rattle.output.proofs.Given.{gives_then, gives_as}
-use Rattle.writer.proofs.Pieces.{three_pieces, gives_lines, group_text}
+use Rattle.output.proofs.Given.{gives_as}
+use Rattle.writer.proofs.Pieces.{gives_lines, group_text}
 use Rattle.writer.proofs.EdgeLines.write.Goals as goal
 
 pub returns : goal.returns
@@ -14,8 +13,7 @@ returns g c =
     let resets = map reset_item (used e.resets) in
     let assignments = map assignment_item (used e.assignments) in
     gives_lines ((Edge, (e.from, e.to, e.label)) ∷ []) (guard ++ (resets ++ assignments))
-    (gives_as (three_pieces (codes "edge=") (decimal e.from) (decimal e.to) (label_text e.label))
-    (gives_then c.put.ensures (gives_then c.put_natural.ensures (gives_then c.put-2.ensures (gives_then c.put_natural-2.ensures (gives_then c.put-3.ensures (gives_then c.put_label.ensures c.put-4.ensures)))))))
+    c.put_line.ensures
     (gives_lines guard (resets ++ assignments) (gives_as (group_text condition_item e.guard) c.write_all.ensures)
     (gives_lines resets assignments (gives_as (group_text reset_item e.resets) c.write_all-2.ensures)
     (gives_as (group_text assignment_item e.assignments) c.write_all-3.ensures)))

@@ -22,4 +22,4 @@ returns g c =
     (gives_then (gives_as (ap (λ (x : List Task). text_of (flat_map task_items x)) c.tasks.ensures) c.write_all-2.ensures)
     (gives_then (gives_as (ap (λ (x : List Location). text_of (flat_map location_items x)) c.locations.ensures) c.write_all-3.ensures)
     (gives_then (gives_as (ap (λ (x : List Edge). text_of (flat_map edge_items x)) c.edges.ensures) c.write_all-4.ensures)
-    (gives_as (ap (λ (x : List Edge). text_of ((Edges, length x) ∷ [])) c.edges-2.ensures) c.put_count.ensures))))))
+    (gives_as (ap (λ (x : List Edge). text_of ((Edges, length x) ∷ [])) c.edges-2.ensures) c.put_line.ensures))))))
