@@ -116,6 +116,7 @@ impl<'a> Sink for Out<'a> {
 
     ghost lender = { λ o. o.buf.ghost_name };
 
+    #[tactic(auto, using(crate::proofs::Room::written_more))]
     fn put(&mut self, bytes: &[u8]) {
         if self.add(bytes).is_err() {
             self.len = None;

@@ -234,6 +234,7 @@ fn write_all<T: Lines, S: Sink>(out: &mut S, parts: &[T])
 impl Lines for Task {
     ghost items = { task_items };
 
+    #[tactic(auto, using(crate::proofs::Pieces::in_a_row))]
     fn write<S: Sink>(&self, out: &mut S) {
         put_line(out, b"task", &(self.cost, (self.deadline, self.priority)));
         write_all(out, &self.assignments);
@@ -243,6 +244,7 @@ impl Lines for Task {
 impl Lines for Location {
     ghost items = { location_items };
 
+    #[tactic(auto, using(crate::proofs::Pieces::in_a_row))]
     fn write<S: Sink>(&self, out: &mut S) {
         put_line(out, b"loc", &(self.automaton, self.task));
         write_all(out, &self.invariants);
@@ -252,6 +254,7 @@ impl Lines for Location {
 impl Lines for Edge {
     ghost items = { edge_items };
 
+    #[tactic(auto, using(crate::proofs::Pieces::in_a_row))]
     fn write<S: Sink>(&self, out: &mut S) {
         put_line(out, b"edge", &(self.from, (self.to, self.label)));
         write_all(out, &self.guard);
