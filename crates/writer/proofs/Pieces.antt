@@ -18,14 +18,9 @@ grouped f (Some x ∷ xs) = ap (λ (z : List Item). f x ∷ z) (grouped f xs)
 -- text of lines in a row, and of groups among them
 pub ruleset in_a_row = (text_append, append_assoc, grouped, flat_map_single)
 
-module _ {X : Type 0} (f : X → List Item) where
-  -- one part more
-  pub all_more : (xs : List X) (i : ℕ) (x : X) → i < length xs → x ≡ get_or xs i x → text_of (flat_map f (take i xs)) ++ text_of (f x) ≡ text_of (flat_map f (take (i + 1) xs))
-  all_more xs i x h e =
-      sym (text_append (flat_map f (take i xs)) (f x))
-      ∙ ap text_of (ap (λ (z : List Item). flat_map f (take i xs) ++ z) (sym (append-nil (f x))) ∙ sym (flat_map-append f (take i xs) (x ∷ [])))
-      ∙ ap (λ (z : X). text_of (flat_map f (take i xs ++ (z ∷ [])))) e
-      ∙ ap (λ (z : List X). text_of (flat_map f z)) (sym (take_more xs i x h))
+-- one part more
+pub all_more : {X : Type 0} (f : X → List Item) (xs : List X) (i : ℕ) (x : X) → i < length xs → x ≡ get_or xs i x → text_of (flat_map f (take i xs)) ++ text_of (f x) ≡ text_of (flat_map f (take (i + 1) xs))
+all_more f xs i x h e = simp (take_more xs i x h, sym e, flat_map-append, text_append, append-nil)
 
 -- the lines of a sequence, kind by kind
 pub six_kinds : (a b c d e f : List Item) → text_of a ++ (text_of b ++ (text_of c ++ (text_of d ++ (text_of e ++ text_of f)))) ≡ text_of (a ++ ((b ++ (c ++ (d ++ e))) ++ f))
