@@ -1,11 +1,12 @@
 // Bytes for a caller's buffer, written or only counted, and numbers as text.
 #![tactic(auto)]
 
-ghost use Rattle.std.specs.Prelude.{◌≡◌, ℕ, List, [], length, if◌then◌else◌, Ok, Err, decimal, nat_le};
+ghost use Rattle.std.specs.Prelude.{◌≡◌, ℕ, List, [], length, ok_or, decimal, nat_le};
 ghost use Rattle.std.specs.Fmt.{signed_decimal};
 ghost use Rattle.lexical.specs.Faults.{short_report};
 ghost use Rattle.output.specs.Giving.{Gives, Counted, Written, Added};
 
+use itoa::{Buffer, Integer};
 use lexical::fault::Report;
 
 // The answer to a buffer that is too short.
@@ -40,42 +41,32 @@ pub trait Sink {
 // Counts what a buffer would take, and writes nothing.
 #[derive(Clone, Copy)]
 pub struct Tally {
-    left: usize,
-    short: bool,
+    // none once more was given than fits
+    left: Option<usize>,
 }
 
 impl Tally {
     pub fn new(room: usize) -> Tally
-        ensures { (start : List ℕ) → length start ≡ room → Counted result.short result.left start [] }
+        ensures { (start : List ℕ) → length start ≡ room → Counted result.left start [] }
     {
-        Tally {
-            left: room,
-            short: false,
-        }
+        Tally { left: Some(room) }
     }
 
     // Whether all that was given fits.
     pub fn fits(&self) -> bool
-        ensures { (start given : List ℕ) → Counted self.now.short self.now.left start given → result ≡ nat_le (length given) (length start) }
+        ensures { (start given : List ℕ) → Counted self.now.left start given → result ≡ nat_le (length given) (length start) }
     {
-        !self.short
+        self.left.is_some()
     }
 }
 
 impl Sink for Tally {
-    ghost holds = { λ t start given. Counted t.short t.left start given };
+    ghost holds = { λ t start given. Counted t.left start given };
 
     ghost lender = { λ _. 0 };
 
     fn put(&mut self, bytes: &[u8]) {
-        if self.short {
-            return;
-        }
-        if bytes.len() > self.left {
-            self.short = true;
-            return;
-        }
-        self.left -= bytes.len();
+        self.left = self.left.and_then(|left| left.checked_sub(bytes.len()));
     }
 }
 
@@ -83,80 +74,74 @@ impl Sink for Tally {
 #[derive(Drop)]
 pub struct Out<'a> {
     buf: &'a mut [u8],
-    len: usize,
-    short: bool,
+    // none once more was given than fits
+    len: Option<usize>,
 }
 
 impl<'a> Out<'a> {
     pub fn new(buf: &'a mut [u8]) -> Out<'a>
-        ensures holds { Written result.short result.len result.buf.now buf.old [] }
+        ensures holds { Written result.len result.buf.now buf.old [] }
         ensures lender { result.buf.ghost_name ≡ buf.entry.ghost_name }
     {
-        Out {
-            buf,
-            len: 0,
-            short: false,
-        }
+        Out { buf, len: Some(0) }
     }
 
     // Writes all of the bytes behind those that are there, or none where they do not fit.
     pub fn add(&mut self, bytes: &[u8]) -> Result<(), OutputShort>
-        ensures added { Added self.old.short self.old.len self.old.buf.now bytes.now self.new.len self.new.buf.now result }
-        ensures short { self.new.short ≡ self.old.short }
+        ensures added { Added self.old.len self.old.buf.now bytes.now self.new.len self.new.buf.now result }
         ensures lender { self.new.buf.ghost_name ≡ self.old.buf.ghost_name }
     {
-        let at = self.len;
-        let n = bytes.len();
+        let at = self.end()?;
         let room = self.buf.len();
-        if self.short || at > room || n > room - at {
-            return Err(OutputShort);
-        }
-        self.buf[at..at + n].copy_from_slice(bytes);
-        self.len = at + n;
+        let end = at
+            .checked_add(bytes.len())
+            .filter(|end| *end <= room)
+            .ok_or(OutputShort)?;
+        // not by `get_mut`, which says nothing of the rest of the buffer once its part is written
+        self.buf[at..end].copy_from_slice(bytes);
+        self.len = Some(end);
         Ok(())
     }
 
     // How many bytes were written, or that more was given than fits.
     pub fn end(&self) -> Result<usize, OutputShort>
-        ensures { result ≡ (if self.now.short then (Err record {}) else Ok self.now.len) }
+        ensures { result ≡ ok_or self.now.len record {} }
     {
-        if self.short {
-            Err(OutputShort)
-        } else {
-            Ok(self.len)
-        }
+        self.len.ok_or(OutputShort)
     }
 }
 
 impl<'a> Sink for Out<'a> {
-    ghost holds = { λ o start given. Written o.short o.len o.buf.now start given };
+    ghost holds = { λ o start given. Written o.len o.buf.now start given };
 
     ghost lender = { λ o. o.buf.ghost_name };
 
+    #[tactic(auto, using(crate::proofs::Room::written_more))]
     fn put(&mut self, bytes: &[u8]) {
-        match self.add(bytes) {
-            Ok(()) => {}
-            Err(_) => self.short = true,
+        if self.add(bytes).is_err() {
+            self.len = None;
         }
     }
+}
+
+// A number in decimal, with a minus sign before those below 0.
+fn put_number<S: Sink, I: Integer>(out: &mut S, n: I)
+    ensures { Gives S.Sink.holds S.Sink.lender out.old (I.text n) out.new }
+{
+    let mut digits = Buffer::new();
+    out.put(digits.format(n).as_bytes());
 }
 
 // A number's decimal digits.
 pub fn put_natural<S: Sink>(out: &mut S, n: u32)
     ensures { Gives S.Sink.holds S.Sink.lender out.old (decimal n) out.new }
 {
-    if n >= 10 {
-        put_natural(out, n / 10);
-    }
-    out.put(&[b'0' + (n % 10) as u8]);
+    put_number(out, n);
 }
 
 // The same with a minus sign before those below 0.
 pub fn put_integer<S: Sink>(out: &mut S, z: i32)
     ensures { Gives S.Sink.holds S.Sink.lender out.old (signed_decimal z) out.new }
 {
-    if z < 0 {
-        out.put(b"-");
-    }
-    put_natural(out, z.unsigned_abs());
+    put_number(out, z);
 }

@@ -1,9 +1,10 @@
 // A sequence as text, in the caller's buffer.
 #![tactic(auto)]
 
-ghost use Rattle.std.specs.Prelude.{List, [], ◌∷◌, ◌++◌, decimal};
+ghost use Rattle.std.specs.Prelude.{◌≡◌, ℕ, List, [], ◌∷◌, ◌++◌, decimal};
 ghost use Rattle.std.specs.List.{flat_map};
 ghost use Rattle.std.specs.Fmt.{signed_decimal};
+ghost use Rattle.lexical.specs.Bytes.{comma, equals, newline};
 ghost use Rattle.lexical.specs.Fields.{printed_or_dash, relation_word, strictness_word, label_text};
 ghost use Rattle.output.specs.Giving.{Gives};
 ghost use Rattle.grammar.specs.Lines.{Item, text_of};
@@ -27,56 +28,83 @@ trait Lines {
         ensures { Gives S.Sink.holds S.Sink.lender out.old (text_of (items self.now)) out.new };
 }
 
-// The value of a variable, or a constant for one.
-fn put_value<S: Sink>(out: &mut S, z: i16)
-    ensures { Gives S.Sink.holds S.Sink.lender out.old (signed_decimal z) out.new }
-{
-    put_integer(out, z as i32);
+// What a line says in one field, or in several with commas between them.
+trait Field {
+    ghost text: { Self → List ℕ };
+
+    fn put<S: Sink>(&self, out: &mut S)
+        ensures { Gives S.Sink.holds S.Sink.lender out.old (text self.now) out.new };
 }
 
-// A number, or a dash for none.
-fn put_optional<S: Sink>(out: &mut S, number: Option<u8>)
-    ensures { Gives S.Sink.holds S.Sink.lender out.old (printed_or_dash decimal number) out.new }
-{
-    match number {
-        None => out.put(b"-"),
-        Some(n) => put_natural(out, n as u32),
+impl Field for u8 {
+    ghost text = { decimal };
+
+    fn put<S: Sink>(&self, out: &mut S) {
+        put_natural(out, *self as u32);
     }
 }
 
-// The word of a relation.
-fn put_relation<S: Sink>(out: &mut S, relation: Relation)
-    ensures { Gives S.Sink.holds S.Sink.lender out.old (relation_word relation) out.new }
-{
-    match relation {
-        Relation::Lt => out.put(b"lt"),
-        Relation::Le => out.put(b"le"),
-        Relation::Eq => out.put(b"eq"),
-        Relation::Ge => out.put(b"ge"),
-        Relation::Gt => out.put(b"gt"),
+impl Field for u32 {
+    ghost text = { decimal };
+
+    fn put<S: Sink>(&self, out: &mut S) {
+        put_natural(out, *self);
     }
 }
 
-// The word of an invariant's relation.
-fn put_strictness<S: Sink>(out: &mut S, strict: bool)
-    ensures { Gives S.Sink.holds S.Sink.lender out.old (strictness_word strict) out.new }
-{
-    if strict {
-        out.put(b"lt");
-    } else {
-        out.put(b"le");
+impl Field for i16 {
+    ghost text = { signed_decimal };
+
+    fn put<S: Sink>(&self, out: &mut S) {
+        put_integer(out, *self as i32);
+    }
+}
+
+impl Field for i32 {
+    ghost text = { signed_decimal };
+
+    fn put<S: Sink>(&self, out: &mut S) {
+        put_integer(out, *self);
+    }
+}
+
+// A dash for none.
+impl<T: Field> Field for Option<T> {
+    ghost text = { printed_or_dash T.Field.text };
+
+    fn put<S: Sink>(&self, out: &mut S) {
+        match self {
+            None => out.put(b"-"),
+            Some(field) => field.put(out),
+        }
+    }
+}
+
+impl Field for Relation {
+    ghost text = { relation_word };
+
+    fn put<S: Sink>(&self, out: &mut S) {
+        out.put(match *self {
+            Relation::Lt => b"lt",
+            Relation::Le => b"le",
+            Relation::Eq => b"eq",
+            Relation::Ge => b"ge",
+            Relation::Gt => b"gt",
+        });
     }
 }
 
 // A dash, or a letter and a number.
-fn put_label<S: Sink>(out: &mut S, label: Label)
-    ensures { Gives S.Sink.holds S.Sink.lender out.old (label_text label) out.new }
-{
-    match label {
-        Label::Internal => out.put(b"-"),
-        Label::Trigger(n) => put_lettered(out, b"t", n),
-        Label::Send(n) => put_lettered(out, b"s", n),
-        Label::Receive(n) => put_lettered(out, b"r", n),
+impl Field for Label {
+    ghost text = { label_text };
+
+    fn put<S: Sink>(&self, out: &mut S) {
+        match *self {
+            Label::Internal => out.put(b"-"),
+            Label::Trigger(n) => put_lettered(out, b"t", n),
+            Label::Send(n) => put_lettered(out, b"s", n),
+            Label::Receive(n) => put_lettered(out, b"r", n),
+        }
     }
 }
 
@@ -85,28 +113,46 @@ fn put_lettered<S: Sink>(out: &mut S, letter: &[u8], n: u8)
     ensures { Gives S.Sink.holds S.Sink.lender out.old (letter.now ++ decimal n) out.new }
 {
     out.put(letter);
-    put_natural(out, n as u32);
+    n.put(out);
 }
 
-// A line of one number.
-fn put_count<S: Sink>(out: &mut S, key: &[u8], n: u32)
-    ensures { Gives S.Sink.holds S.Sink.lender out.old ((key.now ++ (61 ∷ decimal n)) ++ (10 ∷ [])) out.new }
+// Two fields. Of more, the second is a pair again.
+impl<A: Field, B: Field> Field for (A, B) {
+    ghost text = { λ f. A.Field.text f.0 ++ (comma ∷ B.Field.text f.1) };
+
+    fn put<S: Sink>(&self, out: &mut S) {
+        self.0.put(out);
+        out.put(b",");
+        self.1.put(out);
+    }
+}
+
+// A key with its fields.
+fn put_line<F: Field, S: Sink>(out: &mut S, key: &[u8], fields: &F)
+    ensures { Gives S.Sink.holds S.Sink.lender out.old ((key.now ++ (equals ∷ F.text fields.now)) ++ (newline ∷ [])) out.new }
 {
     out.put(key);
     out.put(b"=");
-    put_natural(out, n);
+    fields.put(out);
     out.put(b"\n");
+}
+
+// An invariant's relation of its clock to its bound.
+fn strictness(strict: bool) -> Relation
+    ensures { relation_word result ≡ strictness_word strict }
+{
+    if strict { Relation::Lt } else { Relation::Le }
 }
 
 impl Lines for Counts {
     ghost items = { count_items };
 
     fn write<S: Sink>(&self, out: &mut S) {
-        put_count(out, b"form", 1);
-        put_count(out, b"autos", self.automata as u32);
-        put_count(out, b"clocks", self.clocks as u32);
-        put_count(out, b"triggers", self.triggers as u32);
-        put_count(out, b"chans", self.channels as u32);
+        put_line(out, b"form", &1u8);
+        put_line(out, b"autos", &self.automata);
+        put_line(out, b"clocks", &self.clocks);
+        put_line(out, b"triggers", &self.triggers);
+        put_line(out, b"chans", &self.channels);
     }
 }
 
@@ -114,13 +160,7 @@ impl Lines for Variable {
     ghost items = { λ v. variable_item v ∷ [] };
 
     fn write<S: Sink>(&self, out: &mut S) {
-        out.put(b"var=");
-        put_value(out, self.low);
-        out.put(b",");
-        put_value(out, self.high);
-        out.put(b",");
-        put_value(out, self.start);
-        out.put(b"\n");
+        put_line(out, b"var", &(self.low, (self.high, self.start)));
     }
 }
 
@@ -128,13 +168,7 @@ impl Lines for Assignment {
     ghost items = { λ a. assignment_item a ∷ [] };
 
     fn write<S: Sink>(&self, out: &mut S) {
-        out.put(b"set=");
-        put_natural(out, self.target as u32);
-        out.put(b",");
-        put_optional(out, self.source);
-        out.put(b",");
-        put_value(out, self.constant);
-        out.put(b"\n");
+        put_line(out, b"set", &(self.target, (self.source, self.constant)));
     }
 }
 
@@ -142,13 +176,11 @@ impl Lines for Invariant {
     ghost items = { λ i. invariant_item i ∷ [] };
 
     fn write<S: Sink>(&self, out: &mut S) {
-        out.put(b"inv=");
-        put_natural(out, self.clock as u32);
-        out.put(b",");
-        put_strictness(out, self.strict);
-        out.put(b",");
-        put_natural(out, self.bound);
-        out.put(b"\n");
+        put_line(
+            out,
+            b"inv",
+            &(self.clock, (strictness(self.strict), self.bound)),
+        );
     }
 }
 
@@ -156,49 +188,8 @@ impl Lines for Reset {
     ghost items = { λ r. reset_item r ∷ [] };
 
     fn write<S: Sink>(&self, out: &mut S) {
-        put_count(out, b"zero", self.clock as u32);
+        put_line(out, b"zero", &self.clock);
     }
-}
-
-// A condition on a clock.
-fn put_clock<S: Sink>(out: &mut S, clock: u8, relation: Relation, k: u32)
-    ensures { Gives S.Sink.holds S.Sink.lender out.old (text_of (condition_item (Condition.Clock clock relation k) ∷ [])) out.new }
-{
-    out.put(b"clk=");
-    put_natural(out, clock as u32);
-    out.put(b",");
-    put_relation(out, relation);
-    out.put(b",");
-    put_natural(out, k);
-    out.put(b"\n");
-}
-
-// A condition on the difference of two clocks.
-fn put_difference<S: Sink>(out: &mut S, first: u8, second: u8, relation: Relation, k: i32)
-    ensures { Gives S.Sink.holds S.Sink.lender out.old (text_of (condition_item (Condition.Difference first second relation k) ∷ [])) out.new }
-{
-    out.put(b"dif=");
-    put_natural(out, first as u32);
-    out.put(b",");
-    put_natural(out, second as u32);
-    out.put(b",");
-    put_relation(out, relation);
-    out.put(b",");
-    put_integer(out, k);
-    out.put(b"\n");
-}
-
-// A condition on a variable.
-fn put_variable<S: Sink>(out: &mut S, variable: u8, relation: Relation, k: i16)
-    ensures { Gives S.Sink.holds S.Sink.lender out.old (text_of (condition_item (Condition.Variable variable relation k) ∷ [])) out.new }
-{
-    out.put(b"val=");
-    put_natural(out, variable as u32);
-    out.put(b",");
-    put_relation(out, relation);
-    out.put(b",");
-    put_value(out, k);
-    out.put(b"\n");
 }
 
 impl Lines for Condition {
@@ -206,11 +197,17 @@ impl Lines for Condition {
 
     fn write<S: Sink>(&self, out: &mut S) {
         match *self {
-            Condition::Clock(clock, relation, k) => put_clock(out, clock, relation, k),
-            Condition::Difference(first, second, relation, k) => put_difference(
-                out, first, second, relation, k,
+            Condition::Clock(clock, relation, k) => put_line(out, b"clk", &(clock, (relation, k))),
+            Condition::Difference(first, second, relation, k) => put_line(
+                out,
+                b"dif",
+                &(first, (second, (relation, k))),
             ),
-            Condition::Variable(variable, relation, k) => put_variable(out, variable, relation, k),
+            Condition::Variable(variable, relation, k) => put_line(
+                out,
+                b"val",
+                &(variable, (relation, k)),
+            ),
         }
     }
 }
@@ -219,9 +216,8 @@ impl<T: Lines> Lines for Option<T> {
     ghost items = { λ o. place_items T.Lines.items o };
 
     fn write<S: Sink>(&self, out: &mut S) {
-        match self {
-            None => {}
-            Some(part) => part.write(out),
+        if let Some(part) = self {
+            part.write(out);
         }
     }
 }
@@ -238,14 +234,9 @@ fn write_all<T: Lines, S: Sink>(out: &mut S, parts: &[T])
 impl Lines for Task {
     ghost items = { task_items };
 
+    #[tactic(auto, using(crate::proofs::Pieces::in_a_row))]
     fn write<S: Sink>(&self, out: &mut S) {
-        out.put(b"task=");
-        put_natural(out, self.cost);
-        out.put(b",");
-        put_natural(out, self.deadline);
-        out.put(b",");
-        put_natural(out, self.priority as u32);
-        out.put(b"\n");
+        put_line(out, b"task", &(self.cost, (self.deadline, self.priority)));
         write_all(out, &self.assignments);
     }
 }
@@ -253,12 +244,9 @@ impl Lines for Task {
 impl Lines for Location {
     ghost items = { location_items };
 
+    #[tactic(auto, using(crate::proofs::Pieces::in_a_row))]
     fn write<S: Sink>(&self, out: &mut S) {
-        out.put(b"loc=");
-        put_natural(out, self.automaton as u32);
-        out.put(b",");
-        put_optional(out, self.task);
-        out.put(b"\n");
+        put_line(out, b"loc", &(self.automaton, self.task));
         write_all(out, &self.invariants);
     }
 }
@@ -266,14 +254,9 @@ impl Lines for Location {
 impl Lines for Edge {
     ghost items = { edge_items };
 
+    #[tactic(auto, using(crate::proofs::Pieces::in_a_row))]
     fn write<S: Sink>(&self, out: &mut S) {
-        out.put(b"edge=");
-        put_natural(out, self.from as u32);
-        out.put(b",");
-        put_natural(out, self.to as u32);
-        out.put(b",");
-        put_label(out, self.label);
-        out.put(b"\n");
+        put_line(out, b"edge", &(self.from, (self.to, self.label)));
         write_all(out, &self.guard);
         write_all(out, &self.resets);
         write_all(out, &self.assignments);
@@ -289,7 +272,7 @@ impl Lines for Sequence {
         write_all(out, self.tasks());
         write_all(out, self.locations());
         write_all(out, self.edges());
-        put_count(out, b"edges", self.edges().len() as u32);
+        put_line(out, b"edges", &(self.edges().len() as u32));
     }
 }
 
