@@ -1,5 +1,7 @@
 -- Spans of ticks.
-use Rattle.std.proofs.Common.{◌≡◌, ℕ, ◌+◌, ◌-◌, ◌<◌, ◌≤◌, min, max, ◌&&◌, ◌⊎◌, List, length, get_or, drop, ℤ, pos, ◌-ℤ◌, Some, None, Option, sym, refl, ap, ◌∙◌, inl, inr, arith}
+use Rattle.std.proofs.Common.{◌≡◌, ℕ, ◌-◌, ◌≤◌, min, max, ◌&&◌, ◌⊎◌, List, [], ◌∷◌, ◌++◌, get_or, ℤ, pos, ◌-ℤ◌, Option, sym, refl, ap, ◌∙◌, inl, inr, arith}
+use Rattle.std.specs.List.{list_all}
+use Rattle.parts.specs.Limits.{last_tick}
 use Rattle.std.proofs.lemmas.Int.{ints}
 use Rattle.std.proofs.lemmas.Bool.Decides.{nat_tests}
 use Rattle.parts.specs.declared.part.Relation.{Relation}
@@ -7,8 +9,8 @@ use Rattle.parts.specs.declared.part.Condition.{Condition}
 use Rattle.parts.specs.declared.part.Condition.TheVariants.{Difference, Variable}
 use Rattle.runs.specs.Guards.{compares, holds, guard_holds}
 use Rattle.guards.specs.declared.span.Span.{Span}
-use Rattle.guards.specs.Spans.{ZeroedBy, in_span}
-use Rattle.guards.proofs.Groups.{all_seen, unused, used}
+use Rattle.guards.specs.Spans.{ZeroedBy, in_span, ConditionSpans, GuardSpans}
+use Rattle.guards.proofs.Groups.{used, all_used, all_push}
 
 same_difference : (t u x y : ℕ) → x ≤ t → y ≤ t → t ≤ u → (pos (t - x) -ℤ pos (t - y)) ≡ (pos (u - x) -ℤ pos (u - y))
 same_difference t u x y h l m = omega (arith, ints)
@@ -26,14 +28,17 @@ module _ (zeroed : List ℕ) (values : List ℤ) (t u : ℕ) (z : ZeroedBy zeroe
 pub meet_is : (p q r : Span) (t : ℕ) → r.low ≡ max p.low q.low → r.high ≡ min p.high q.high → in_span r t ≡ (in_span p t && in_span q t)
 meet_is p q r t l h = grind (arith, nat_tests)
 
--- within the span so far the conditions that are left decide
-module _ (zeroed : List ℕ) (values : List ℤ) (guard : List (Option Condition)) (i : ℕ) (so_far : Span) (t : ℕ) (inv : (in_span so_far t && guard_holds zeroed values t (drop i guard)) ≡ guard_holds zeroed values t guard) where
-  pub all_met : length guard ≤ i → guard_holds zeroed values t guard ≡ in_span so_far t
-  all_met h = sym (all_seen (holds zeroed values t) (guard_holds zeroed values t) guard i (in_span so_far t) inv refl h)
+-- within what the spans so far have in common the conditions so far hold
+module _ (zeroed : List ℕ) (values : List ℤ) where
+  abbrev pub CommonSpan : List Condition → Span → Type 0
+  CommonSpan ds s = (from : ℕ) → ZeroedBy zeroed from → (t : ℕ) → from ≤ t → t ≤ last_tick → list_all (holds zeroed values t) ds ≡ in_span s t
 
-  module _ (h : i < length guard) (next : Span) where
-    pub none_to_meet : get_or guard i None ≡ None → next ≡ so_far → (in_span next t && guard_holds zeroed values t (drop (i + 1) guard)) ≡ guard_holds zeroed values t guard
-    none_to_meet e n = ap (λ s. in_span s t && guard_holds zeroed values t (drop (i + 1) guard)) n ∙ unused (holds zeroed values t) (guard_holds zeroed values t) guard i (in_span so_far t) inv (λ _. refl) h e
+  pub common_more : (ds : List Condition) (so_far s met : Span) (d : Condition) → CommonSpan ds so_far → ConditionSpans zeroed values d s → met.low ≡ max so_far.low s.low → met.high ≡ min so_far.high s.high → CommonSpan (ds ++ (d ∷ [])) met
+  common_more ds so_far s met d p q low high from z t l h =
+      all_push (holds zeroed values t) ds d ∙ (ap (λ b. b && holds zeroed values t d) (p from z t l h) ∙ (ap (λ b. in_span so_far t && b) (q from z t l h) ∙ sym (meet_is so_far s met t low high)))
 
-    pub one_met : (c : Condition) (s met : Span) → get_or guard i None ≡ Some c → holds zeroed values t c ≡ in_span s t → met.low ≡ max so_far.low s.low → met.high ≡ min so_far.high s.high → next ≡ met → (in_span next t && guard_holds zeroed values t (drop (i + 1) guard)) ≡ guard_holds zeroed values t guard
-    one_met c s met e p low high n = ap (λ b. b && guard_holds zeroed values t (drop (i + 1) guard)) (ap (λ v. in_span v t) n ∙ meet_is so_far s met t low high) ∙ used (holds zeroed values t) (guard_holds zeroed values t) guard i (in_span so_far t) inv (λ _. refl) h c (in_span s t) e (sym p)
+  pub common_is : (guard : List (Option Condition)) (s : Span) → CommonSpan (used guard) s → GuardSpans zeroed values guard s
+  common_is guard s p from z t l h = all_used (guard_holds zeroed values t) (holds zeroed values t) refl (λ x xs. refl) guard ∙ p from z t l h
+
+  pub common_none : CommonSpan [] (record { low = 0; high = last_tick })
+  common_none from z t l h = grind (arith, nat_tests)

@@ -1,9 +1,10 @@
 // Whether conditions, guards and invariants hold at a tick.
 //
-// `zeroed` has the tick at which each clock was zeroed last and `values` the value of each variable; past the end both count as 0.
+// What needs the clocks alone takes `zeroed`, and what needs the variables alone `values`: the fields of a valuation.
 ghost use Rattle.std.specs.Prelude.{◌≡◌, pos, slice_index, slice_index_or};
-ghost use Rattle.runs.specs.Guards.{compares, clock as clock_at, holds, if_used, guard_holds, keeps, all_keep, may_stay_in};
+ghost use Rattle.runs.specs.Guards.{compares, clock as clock_at, holds, guard_holds, keeps, all_keep, may_stay_in};
 
+use crate::valuation::Valuation;
 use parts::part::{Condition, Invariant, Location, Relation};
 
 pub fn compare(relation: Relation, x: i64, y: i64) -> bool
@@ -12,7 +13,7 @@ pub fn compare(relation: Relation, x: i64, y: i64) -> bool
     match relation {
         Relation::Lt => x < y,
         Relation::Le => x <= y,
-        Relation::Eq => x <= y && y <= x,
+        Relation::Eq => x == y,
         Relation::Ge => y <= x,
         Relation::Gt => y < x,
     }
@@ -22,12 +23,7 @@ pub fn compare(relation: Relation, x: i64, y: i64) -> bool
 pub fn last_zeroing(zeroed: &[u32], clock: u8) -> u32
     ensures { result ≡ slice_index zeroed.now clock }
 {
-    let place = clock as usize;
-    if place < zeroed.len() {
-        zeroed[place]
-    } else {
-        0
-    }
+    zeroed.get(clock as usize).copied().unwrap_or(0)
 }
 
 pub fn clock_value(zeroed: &[u32], clock: u8, tick: u32) -> u32
@@ -39,46 +35,43 @@ pub fn clock_value(zeroed: &[u32], clock: u8, tick: u32) -> u32
 pub fn variable_value(values: &[i16], variable: u8) -> i16
     ensures { result ≡ slice_index_or values.now variable (pos 0) }
 {
-    let place = variable as usize;
-    if place < values.len() {
-        values[place]
-    } else {
-        0
-    }
+    values.get(variable as usize).copied().unwrap_or(0)
 }
 
-pub fn condition_holds(condition: &Condition, zeroed: &[u32], values: &[i16], tick: u32) -> bool
-    ensures { result ≡ holds zeroed.now values.now tick condition.now }
-{
-    match *condition {
-        Condition::Clock(clock, relation, k) => compare(
-            relation,
-            clock_value(zeroed, clock, tick) as i64,
-            k as i64,
-        ),
-        Condition::Difference(first, second, relation, k) => {
-            let difference = clock_value(zeroed, first, tick) as i64
-                - clock_value(zeroed, second, tick) as i64;
-            compare(relation, difference, k as i64)
-        }
-        Condition::Variable(variable, relation, k) => {
-            compare(relation, variable_value(values, variable) as i64, k as i64)
-        }
-    }
-}
-
-// Whether all conditions of a guard hold.
-pub fn guard_holds(guard: &[Option<Condition>], zeroed: &[u32], values: &[i16], tick: u32) -> bool
-    ensures { result ≡ guard_holds zeroed.now values.now tick guard.now }
-{
-    for place in guard {
-        if let Some(condition) = place {
-            if !condition_holds(condition, zeroed, values, tick) {
-                return false;
+impl Valuation<'_> {
+    pub fn condition_holds(self, condition: &Condition, tick: u32) -> bool
+        ensures { result ≡ holds self.entry.zeroed.now self.entry.values.now tick condition.now }
+    {
+        match *condition {
+            Condition::Clock(clock, relation, k) => compare(
+                relation,
+                clock_value(self.zeroed, clock, tick) as i64,
+                k as i64,
+            ),
+            Condition::Difference(first, second, relation, k) => {
+                let difference = clock_value(self.zeroed, first, tick) as i64
+                    - clock_value(self.zeroed, second, tick) as i64;
+                compare(relation, difference, k as i64)
+            }
+            Condition::Variable(variable, relation, k) => {
+                compare(
+                    relation,
+                    variable_value(self.values, variable) as i64,
+                    k as i64,
+                )
             }
         }
     }
-    true
+
+    // Whether all conditions of a guard hold.
+    pub fn guard_holds(self, guard: &[Option<Condition>], tick: u32) -> bool
+        ensures { result ≡ guard_holds self.entry.zeroed.now self.entry.values.now tick guard.now }
+    {
+        guard
+            .iter()
+            .flatten()
+            .all(|c| self.condition_holds(c, tick))
+    }
 }
 
 pub fn invariant_holds(invariant: &Invariant, zeroed: &[u32], tick: u32) -> bool
@@ -95,22 +88,15 @@ pub fn invariant_holds(invariant: &Invariant, zeroed: &[u32], tick: u32) -> bool
 pub fn invariants_hold(invariants: &[Option<Invariant>], zeroed: &[u32], tick: u32) -> bool
     ensures { result ≡ all_keep zeroed.now tick invariants.now }
 {
-    for place in invariants {
-        if let Some(invariant) = place {
-            if !invariant_holds(invariant, zeroed, tick) {
-                return false;
-            }
-        }
-    }
-    true
+    invariants
+        .iter()
+        .flatten()
+        .all(|i| invariant_holds(i, zeroed, tick))
 }
 
 // Whether a location's invariants hold. Where there is no location nothing is asked.
 pub fn may_stay(location: Option<Location>, zeroed: &[u32], tick: u32) -> bool
     ensures { result ≡ may_stay_in zeroed.now tick location }
 {
-    match location {
-        None => true,
-        Some(l) => invariants_hold(&l.invariants, zeroed, tick),
-    }
+    location.is_none_or(|l| invariants_hold(&l.invariants, zeroed, tick))
 }

@@ -4,3 +4,4 @@
 pub mod at_tick;
 pub mod over_ticks;
 pub mod span;
+pub mod valuation;

@@ -5,8 +5,9 @@ ghost use Rattle.std.specs.Prelude.{◌≡◌, ℕ, ◌-◌, ◌≤◌, min, max
 ghost use Rattle.runs.specs.Guards.{compares, guard_holds};
 ghost use Rattle.guards.specs.Spans.{ZeroedBy, Spans, ConditionSpans, GuardSpans, FirstTick, GuardIsAnInterval};
 
-use crate::at_tick::{condition_holds, last_zeroing};
+use crate::at_tick::last_zeroing;
 use crate::span::Span;
+use crate::valuation::Valuation;
 use parts::LAST_TICK;
 use parts::part::{Condition, Relation};
 
@@ -64,52 +65,42 @@ fn clock_span(relation: Relation, start: u32, k: u32) -> Span
     }
 }
 
-pub fn condition_span(condition: &Condition, zeroed: &[u32], values: &[i16]) -> Span
-    ensures { ConditionSpans zeroed.now values.now condition.now result }
-{
-    match *condition {
-        Condition::Clock(clock, relation, k) => clock_span(
-            relation,
-            last_zeroing(zeroed, clock),
-            k,
-        ),
-        // both clocks go on together, and a variable stays as it is
-        Condition::Difference(_, _, _, _) | Condition::Variable(_, _, _) => {
-            all_or_none(condition_holds(condition, zeroed, values, LAST_TICK))
+impl Valuation<'_> {
+    pub fn condition_span(self, condition: &Condition) -> Span
+        ensures { ConditionSpans self.entry.zeroed.now self.entry.values.now condition.now result }
+    {
+        match *condition {
+            Condition::Clock(clock, relation, k) => clock_span(
+                relation,
+                last_zeroing(self.zeroed, clock),
+                k,
+            ),
+            // both clocks go on together, and a variable stays as it is
+            Condition::Difference(_, _, _, _) | Condition::Variable(_, _, _) => {
+                all_or_none(self.condition_holds(condition, LAST_TICK))
+            }
         }
     }
-}
 
-// What the spans of a guard's conditions have in common.
-pub fn guard_span(guard: &[Option<Condition>], zeroed: &[u32], values: &[i16]) -> Span
-    ensures { GuardSpans zeroed.now values.now guard.now result }
-{
-    let mut span = ALL;
-    for place in guard {
-        if let Some(condition) = place {
-            span = span.meet(condition_span(condition, zeroed, values));
-        }
+    // What the spans of a guard's conditions have in common.
+    pub fn guard_span(self, guard: &[Option<Condition>]) -> Span
+        ensures { GuardSpans self.entry.zeroed.now self.entry.values.now guard.now result }
+    {
+        guard
+            .iter()
+            .flatten()
+            .fold(ALL, |span, c| span.meet(self.condition_span(c)))
     }
-    span
-}
 
-// The first tick from a tick on at which a guard holds, or none up to the last tick.
-pub fn first_tick(
-    guard: &[Option<Condition>],
-    zeroed: &[u32],
-    values: &[i16],
-    from: u32,
-) -> Option<u32>
-    ensures { ZeroedBy zeroed.now from → FirstTick from (λ t. guard_holds zeroed.now values.now t guard.now) result }
-{
-    let span = guard_span(guard, zeroed, values).meet(Span {
-        low: from,
-        high: LAST_TICK,
-    });
-    if span.low <= span.high {
-        Some(span.low)
-    } else {
-        None
+    // The first tick from a tick on at which a guard holds, or none up to the last tick.
+    pub fn first_tick(self, guard: &[Option<Condition>], from: u32) -> Option<u32>
+        ensures { ZeroedBy self.entry.zeroed.now from → FirstTick from (λ t. guard_holds self.entry.zeroed.now self.entry.values.now t guard.now) result }
+    {
+        let span = self.guard_span(guard).meet(Span {
+            low: from,
+            high: LAST_TICK,
+        });
+        (span.low <= span.high).then_some(span.low)
     }
 }
 

@@ -16,6 +16,7 @@ ghost use Rattle.machine.specs.Views.{Shows};
 pub mod engine_core;
 
 use engine_core::Core;
+use guards::valuation::Valuation;
 use jobs::job::Job;
 use runs::event::{Phase, Worker};
 use search::view::View;
@@ -124,8 +125,10 @@ impl Core {
             edges: self.sequence.edges(),
             locations: self.sequence.locations(),
             places: &self.places[0..counts.automata as usize],
-            zeroed: &self.zeroed[0..counts.clocks as usize],
-            values: &self.values[0..self.sequence.variables().len()],
+            valuation: Valuation {
+                zeroed: &self.zeroed[0..counts.clocks as usize],
+                values: &self.values[0..self.sequence.variables().len()],
+            },
             present: &self.present[0..counts.triggers as usize],
             now: self.now,
         }

@@ -1,6 +1,8 @@
 -- A search over candidates finds what a search over all edges finds.
-use Rattle.std.proofs.Common.{◌≡◌, ℕ, ◌+◌, ◌<◌, ◌≤◌, true, not, ◌&&◌, eqb, ◌⊎◌, List, length, Some, None, Option, subst, inl, inr, arith}
+use Rattle.std.proofs.Common.{◌≡◌, ℕ, ◌+◌, ◌<◌, ◌≤◌, true, not, ◌&&◌, eqb, ◌⊎◌, List, length, Some, None, Option, Bor, refl, subst, inl, inr, arith}
 use Rattle.std.specs.List.{slice_get}
+use Rattle.std.specs.Slice.{IsItemAt}
+use Rattle.std.proofs.lemmas.Option.{slice_get_read}
 use Rattle.std.proofs.lemmas.Bool.{cases_lt, cases_eq, and_parts}
 use Rattle.parts.specs.declared.part.Edge.{Edge}
 use Rattle.runs.specs.State.{State, automaton}
@@ -23,6 +25,10 @@ fits_ready : (s : State) (d c : Edge) → fits s d c ≡ true → ready s c ≡ 
 fits_ready s d c h =
     let p = and_parts (not (eqb (automaton s.plan d.from) (automaton s.plan c.from))) (ready s c && opposite d.label c.label) h in
     (and_parts (ready s c) (opposite d.label c.label) p.1).0
+
+-- what `get` lends is what stands at a place
+pub item_at : {X : Type 0} (xs : List X) (i : ℕ) (x : Bor X) → IsItemAt xs i (Some x) → slice_get xs i ≡ Some x.now
+item_at xs i x h = slice_get_read xs _ i x.now refl h.3.0 h.1
 
 module _ (s : State) (cs : List ℕ) where
   -- one more candidate

@@ -1,8 +1,7 @@
 // The search for the foremost open edge and its partner.
 #![tactic(auto)]
 
-ghost use Rattle.std.specs.Prelude.{◌≡◌, true, false, slice_index_or};
-ghost use Rattle.std.specs.List.{slice_get};
+ghost use Rattle.std.specs.Prelude.{◌≡◌, false, slice_index_or};
 ghost use Rattle.runs.specs.State.{automaton as automaton_of};
 ghost use Rattle.runs.specs.Edges.{leaves_current as does_leave, ready as is_ready, goes_alone as does_go_alone, opposite as are_opposite, fits as does_fit};
 ghost use Rattle.runs.specs.Edges.{Finds};
@@ -10,8 +9,6 @@ ghost use Rattle.search.specs.Views.{state_of, Covers, Rises};
 
 pub mod view;
 
-use guards::at_tick::guard_holds;
-use parts::item;
 use parts::part::{Edge, Label};
 use view::View;
 
@@ -30,12 +27,7 @@ pub fn opposite(a: Label, b: Label) -> bool
 pub fn is_present(present: &[bool], trigger: u8) -> bool
     ensures { result ≡ slice_index_or present.now trigger false }
 {
-    let place = trigger as usize;
-    if place < present.len() {
-        present[place]
-    } else {
-        false
-    }
+    present.get(trigger as usize).copied().unwrap_or(false)
 }
 
 impl View<'_> {
@@ -43,27 +35,25 @@ impl View<'_> {
     pub fn automaton(&self, location: u8) -> u8
         ensures { result ≡ automaton_of (state_of self.entry.now).plan location }
     {
-        match item(self.locations, location as usize) {
-            Some(l) => l.automaton,
-            None => 0,
-        }
+        self.locations
+            .get(location as usize)
+            .map_or(0, |l| l.automaton)
     }
 
     // Whether an edge leaves the current location of its automaton.
     pub fn leaves_current(&self, edge: &Edge) -> bool
         ensures { result ≡ does_leave (state_of self.entry.now).plan (state_of self.entry.now).places edge.now }
     {
-        match item(self.places, self.automaton(edge.from) as usize) {
-            Some(place) => place == edge.from,
-            None => false,
-        }
+        self.places
+            .get(self.automaton(edge.from) as usize)
+            .is_some_and(|place| *place == edge.from)
     }
 
     // Whether it does, and its guard holds.
     pub fn ready(&self, edge: &Edge) -> bool
         ensures { result ≡ is_ready (state_of self.entry.now) edge.now }
     {
-        self.leaves_current(edge) && guard_holds(&edge.guard, self.zeroed, self.values, self.now)
+        self.leaves_current(edge) && self.valuation.guard_holds(&edge.guard, self.now)
     }
 
     // Whether a label asks for no partner and has what it asks for.
@@ -93,23 +83,21 @@ impl View<'_> {
         ensures { Rises candidates.now → Covers (state_of self.entry.now) candidates.now → Finds (state_of self.entry.now) result }
     {
         'search: {
-            for i in 0..candidates.len() {
-                let e = candidates[i];
-                let Some(edge) = item(self.edges, e as usize) else {
+            for &e in candidates {
+                let Some(edge) = self.edges.get(e as usize) else {
                     continue;
                 };
-                if !self.ready(&edge) {
+                if !self.ready(edge) {
                     continue;
                 }
                 if self.goes_alone(edge.label) {
                     break 'search Some((e, None));
                 }
-                for j in 0..candidates.len() {
-                    let p = candidates[j];
-                    let Some(partner) = item(self.edges, p as usize) else {
+                for &p in candidates {
+                    let Some(partner) = self.edges.get(p as usize) else {
                         continue;
                     };
-                    if self.fits(&edge, &partner) {
+                    if self.fits(edge, partner) {
                         break 'search Some((e, Some(p)));
                     }
                 }

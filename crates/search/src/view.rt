@@ -1,3 +1,4 @@
+use guards::valuation::Valuation;
 use parts::part::{Edge, Location};
 
 // What decides which edges are open: the sequence's edges and locations, and the state at a tick.
@@ -6,8 +7,7 @@ pub struct View<'a> {
     pub edges: &'a [Edge],
     pub locations: &'a [Location],
     pub places: &'a [u8],
-    pub zeroed: &'a [u32],
-    pub values: &'a [i16],
+    pub valuation: Valuation<'a>,
     pub present: &'a [bool],
     pub now: u32,
 }

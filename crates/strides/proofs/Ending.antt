@@ -19,10 +19,11 @@ use Rattle.guards.specs.Spans.{ZeroedBy}
 use Rattle.search.specs.declared.view.View.{View}
 use Rattle.search.specs.Views.{state_of}
 use Rattle.strides.specs.Quiet.{at_tick, Outlasts, NoneDueBy, Quiet}
-use Rattle.strides.specs.Reach.{Reaches, ComesBehind}
+use Rattle.strides.specs.declared.stretch.Stretch.{Stretch}
+use Rattle.strides.specs.Reach.{Reaches, FreePart, ComesBehind}
 use Rattle.strides.specs.Strides.{Shown, Closed, StrideEnd}
 use Rattle.strides.proofs.Hopping.{late_further}
-use Rattle.strides.proofs.Reaching.{reaches_same, reaches_both}
+use Rattle.strides.proofs.Reaching.{part_same, part_both}
 
 -- ---- edges and invariants depend on what a view shows
 
@@ -84,8 +85,8 @@ module _ (v : View) (q : ReadyQueue) (first : Option Trigger) (s : State) (shown
   pub stay_shown : (a : ℕ) → may_stay (state_of v) t a ≡ may_stay s t a
   stay_shown a = ap (λ x. may_stay x t a) bare_shown ∙ stay_bare s t a
 
-pub zeroed_shown : (v : View) (q : ReadyQueue) (first : Option Trigger) (s : State) → Shown v q first s → Closed s → ZeroedBy v.zeroed.now v.now
-zeroed_shown v q first s shown closed = subst (ZeroedBy v.zeroed.now) (sym shown.now) (subst (λ z. ZeroedBy z s.now) (sym shown.zeroed) closed.zeroed_by)
+pub zeroed_shown : (v : View) (q : ReadyQueue) (first : Option Trigger) (s : State) → Shown v q first s → Closed s → ZeroedBy v.valuation.zeroed.now v.now
+zeroed_shown v q first s shown closed = subst (ZeroedBy v.valuation.zeroed.now) (sym shown.now) (subst (λ z. ZeroedBy z s.now) (sym shown.zeroed) closed.zeroed_by)
 
 -- ---- jobs and triggers up to a tick
 
@@ -124,15 +125,16 @@ module _ (v : View) (q : ReadyQueue) (first : Option Trigger) where
     pub stays : Stays t
     pub shuts : Shuts t
 
-  pub all_obstacles : (reach done late_end trigger invariant r : ℕ) → Reaches AtWork v.now reach done → Reaches InTime v.now done late_end → Reaches (λ t. ComesBehind t first) v.now late_end trigger → Reaches Stays v.now trigger invariant → Reaches Shuts v.now invariant r → Reaches FreeTick v.now reach r
-  all_obstacles reach done late_end trigger invariant r a b c d e =
-      let ab = reaches_both v.now AtWork InTime reach done late_end a b in
-      let abc = reaches_both v.now (λ t. AtWork t × InTime t) (λ t. ComesBehind t first) reach late_end trigger ab c in
-      let abcd = reaches_both v.now (λ t. (AtWork t × InTime t) × ComesBehind t first) Stays reach trigger invariant abc d in
-      let all = reaches_both v.now (λ t. ((AtWork t × InTime t) × ComesBehind t first) × Stays t) Shuts reach invariant r abcd e in
-      reaches_same v.now (λ t. (((AtWork t × InTime t) × ComesBehind t first) × Stays t) × Shuts t) FreeTick reach r
+  pub all_obstacles : (all done in_time trigger invariant r : Stretch) → all.from ≡ v.now → FreePart AtWork all done → FreePart InTime done in_time → FreePart (λ t. ComesBehind t first) in_time trigger → FreePart Stays trigger invariant → FreePart Shuts invariant r → Reaches FreeTick v.now all.to r.to
+  all_obstacles all done in_time trigger invariant r from a b c d e =
+      let ab = part_both AtWork InTime all done in_time a b in
+      let abc = part_both (λ t. AtWork t × InTime t) (λ t. ComesBehind t first) all in_time trigger ab c in
+      let abcd = part_both (λ t. (AtWork t × InTime t) × ComesBehind t first) Stays all trigger invariant abc d in
+      let parts = part_both (λ t. ((AtWork t × InTime t) × ComesBehind t first) × Stays t) Shuts all invariant r abcd e in
+      subst (λ f. Reaches FreeTick f all.to r.to) from
+      (part_same (λ t. (((AtWork t × InTime t) × ComesBehind t first) × Stays t) × Shuts t) FreeTick all r
       (λ t l m f. record { at_work = f.0.0.0.0; in_time = f.0.0.0.1; no_trigger = f.0.0.1; stays = f.0.1; shuts = f.1 })
-      (λ t l m f. ((((f.at_work, f.in_time), f.no_trigger), f.stays), f.shuts)) all
+      (λ t l m f. ((((f.at_work, f.in_time), f.no_trigger), f.stays), f.shuts)) parts).reaches
 
   module _ (s : State) (shown : Shown v q first s) (closed : Closed s) (until reach r : ℕ) (is_reach : reach ≡ min until last_tick) (more : v.now < reach) (ends : Reaches (FreeTick) v.now reach r) where
     stride_quiet : (n : ℕ) → 0 < n → s.now + n ≤ r → Quiet n s

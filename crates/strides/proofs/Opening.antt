@@ -1,6 +1,6 @@
 -- When edges open, alone or with a partner.
-use Rattle.std.proofs.Common.{◌≡◌, ℕ, ◌+◌, ◌<◌, ◌≤◌, min, max, Bool, true, false, not, ◌&&◌, eqb, ◌⊎◌, List, length, Some, None, sym, refl, ap, ◌∙◌, inl, inr, arith}
-use Rattle.std.specs.List.{slice_get, AllByRecursion}
+use Rattle.std.proofs.Common.{◌≡◌, ℕ, ◌<◌, ◌≤◌, min, max, Bool, true, false, not, ◌&&◌, eqb, ◌⊎◌, List, [], ◌∷◌, ◌++◌, Some, None, sym, refl, ap, ◌∙◌, subst, inl, inr, arith}
+use Rattle.std.specs.List.{AllByRecursion}
 use Rattle.std.proofs.ByRecursion.{All-weaker}
 use Rattle.std.proofs.lemmas.Bool.{and_parts, and_from, and_left, and_right, both_ways, cases_Bool}
 use Rattle.parts.specs.declared.part.Edge.{Edge}
@@ -8,13 +8,14 @@ use Rattle.runs.specs.State.{State, automaton}
 use Rattle.runs.specs.Guards.{guard_holds}
 use Rattle.runs.specs.Edges.{leaves_current, goes_alone, opposite, fits, NoneOpen}
 use Rattle.guards.specs.declared.span.Span.{Span}
-use Rattle.guards.specs.Spans.{in_span, GuardSpans}
+use Rattle.guards.specs.Spans.{ZeroedBy, in_span, GuardSpans}
 use Rattle.guards.proofs.Spans.{meet_is}
 use Rattle.search.specs.declared.view.View.{View}
 use Rattle.search.specs.Views.{state_of}
 use Rattle.strides.specs.Quiet.{at_tick}
-use Rattle.strides.specs.Reach.{Reaches, ViewReaches, EdgeShut, could_join, pairs_at}
-use Rattle.strides.proofs.Reaching.{reaches_all, reaches_same, FreeBelow, row_more, row_skip, row_all, nth_from_all, all_from_nth}
+use Rattle.strides.specs.declared.stretch.Stretch.{Stretch}
+use Rattle.strides.specs.Reach.{FreePart, ViewFreePart, EdgeShut, could_join, pairs_at}
+use Rattle.strides.proofs.Reaching.{part_whole, part_same, AllFree, row_none, row_more, nth_from_all, all_from_nth}
 
 and_order : (g a l h o : Bool) → (g && (a && ((l && h) && o))) ≡ ((a && (l && o)) && (g && h))
 and_order true true true h o = and_swap h o
@@ -35,33 +36,30 @@ and_order false false l h o = refl
 pairs_by_guards : (s : State) (t : ℕ) (d c : Edge) → pairs_at s t d c ≡ (could_join s d c && (guard_holds s.zeroed s.values t d.guard && guard_holds s.zeroed s.values t c.guard))
 pairs_by_guards s t d c = and_order (guard_holds s.zeroed s.values t d.guard) (not (eqb (automaton s.plan d.from) (automaton s.plan c.from))) (leaves_current s.plan s.places c) (guard_holds s.zeroed s.values t c.guard) (opposite d.label c.label)
 
-module _ (v : View) (d c : Edge) (reach : ℕ) where
-  pub never_together : could_join (state_of v) d c ≡ false → ViewReaches v (λ t. pairs_at (state_of v) t d c ≡ false) reach reach
-  never_together h z l m = reaches_all v.now (λ t. pairs_at (state_of v) t d c ≡ false) reach l (λ t a b. pairs_by_guards (state_of v) t d c ∙ ap (λ x. x && (guard_holds v.zeroed.now v.values.now t d.guard && guard_holds v.zeroed.now v.values.now t c.guard)) h)
+module _ (v : View) (d c : Edge) (s : Stretch) where
+  pub never_together : could_join (state_of v) d c ≡ false → ViewFreePart v (λ t. pairs_at (state_of v) t d c ≡ false) s s
+  never_together h z = part_whole (λ t. pairs_at (state_of v) t d c ≡ false) s (λ t a b. pairs_by_guards (state_of v) t d c ∙ ap (λ x. x && (guard_holds v.valuation.zeroed.now v.valuation.values.now t d.guard && guard_holds v.valuation.zeroed.now v.valuation.values.now t c.guard)) h)
 
   -- both guards hold together where their spans meet
-  module _ (own other both : Span) (p : GuardSpans v.zeroed.now v.values.now d.guard own) (q : GuardSpans v.zeroed.now v.values.now c.guard other) (low : both.low ≡ max own.low other.low) (high : both.high ≡ min own.high other.high) where
-    pub together : could_join (state_of v) d c ≡ true → (r : ℕ) → (v.now ≤ reach → Reaches (λ t. in_span both t ≡ false) v.now reach r) → ViewReaches v (λ t. pairs_at (state_of v) t d c ≡ false) reach r
-    together h r f z l m = reaches_same v.now (λ t. in_span both t ≡ false) (λ t. pairs_at (state_of v) t d c ≡ false) reach r (λ t a b e. same t a b ∙ e) (λ t a b e. sym (same t a b) ∙ e) (f l)
+  module _ (own other both : Span) (p : GuardSpans v.valuation.zeroed.now v.valuation.values.now d.guard own) (q : GuardSpans v.valuation.zeroed.now v.valuation.values.now c.guard other) (low : both.low ≡ max own.low other.low) (high : both.high ≡ min own.high other.high) where
+    pub together : could_join (state_of v) d c ≡ true → (r : Stretch) → FreePart (λ t. in_span both t ≡ false) s r → ViewFreePart v (λ t. pairs_at (state_of v) t d c ≡ false) s r
+    together h r f z = part_same (λ t. in_span both t ≡ false) (λ t. pairs_at (state_of v) t d c ≡ false) s r (λ t a b e. same t a b ∙ e) (λ t a b e. sym (same t a b) ∙ e) f
       where
-        same : (t : ℕ) → v.now < t → t ≤ reach → pairs_at (state_of v) t d c ≡ in_span both t
+        same : (t : ℕ) → s.from < t → t ≤ s.to → pairs_at (state_of v) t d c ≡ in_span both t
         same t a b =
-            let g = guard_holds v.zeroed.now v.values.now t d.guard in
-            let k = guard_holds v.zeroed.now v.values.now t c.guard in
-            let x : g ≡ in_span own t = p v.now z t (omega arith) (omega arith) in
-            let y : k ≡ in_span other t = q v.now z t (omega arith) (omega arith) in
+            let g = guard_holds v.valuation.zeroed.now v.valuation.values.now t d.guard in
+            let k = guard_holds v.valuation.zeroed.now v.valuation.values.now t c.guard in
+            let x : g ≡ in_span own t = p s.from z t (omega arith) (omega (arith, s.in_run)) in
+            let y : k ≡ in_span other t = q s.from z t (omega arith) (omega (arith, s.in_run)) in
             pairs_by_guards (state_of v) t d c ∙ (ap (λ u. u && (g && k)) h ∙ (ap (λ u. u && k) x ∙ (ap (λ u. in_span own t && u) y ∙ sym (meet_is own other both t low high))))
 
 -- edges one behind the other
-module _ (v : View) (P : Edge → ℕ → Type 0) (reach : ℕ) where
-  pub edge_more : (i m r end : ℕ) (d : Edge) → end ≡ r → slice_get v.edges.now i ≡ Some d → ViewReaches v (FreeBelow P v.edges.now i) reach m → ViewReaches v (P d) m r → ViewReaches v (FreeBelow P v.edges.now (i + 1)) reach end
-  edge_more i m r end d is e p q z l h = let so_far = p z l h in row_more P v.edges.now v.now reach i m r end d is e so_far (q z so_far.ahead (omega (arith, so_far.within)))
+module _ (v : View) (P : Edge → ℕ → Type 0) (s : Stretch) where
+  pub edges_none : ViewFreePart v (AllFree P []) s s
+  edges_none z = row_none P s
 
-  pub edge_skip : (i m end : ℕ) → end ≡ m → slice_get v.edges.now i ≡ None → ViewReaches v (FreeBelow P v.edges.now i) reach m → ViewReaches v (FreeBelow P v.edges.now (i + 1)) reach end
-  edge_skip i m end is e p z l h = row_skip P v.edges.now v.now reach i m end is e (p z l h)
-
-  pub edges_all : (n r : ℕ) → length v.edges.now ≤ n → ViewReaches v (FreeBelow P v.edges.now n) reach r → ViewReaches v (λ t. AllByRecursion (λ d. P d t) v.edges.now) reach r
-  edges_all n r k p z l h = row_all P v.edges.now v.now reach n r k (p z l h)
+  pub edges_more : (ds : List Edge) (d : Edge) (m r : Stretch) → ViewFreePart v (AllFree P ds) s m → ViewFreePart v (P d) m r → ViewFreePart v (AllFree P (ds ++ (d ∷ []))) s r
+  edges_more ds d m r p q z = let so_far = p z in row_more P ds d s m r so_far (q (subst (ZeroedBy v.valuation.zeroed.now) (sym so_far.same_start) z))
 
 all_of : {X : Type 0} (P : X → Type 0) (xs : List X) → ((x : X) → P x) → AllByRecursion P xs
 all_of P xs h = all_from_nth P xs (λ k b x e. h x)
@@ -73,7 +71,7 @@ never_true false h = refl
 -- an edge that waits for a partner is shut while its guard holds with no partner fitting
 module _ (v : View) (d : Edge) (leaves : leaves_current (state_of v).plan v.places.now d ≡ true) (alone : goes_alone v.present.now d.label ≡ false) where
   abbrev guard : ℕ → Bool
-  guard t = guard_holds v.zeroed.now v.values.now t d.guard
+  guard t = guard_holds v.valuation.zeroed.now v.valuation.values.now t d.guard
 
   shut_unpaired : (t : ℕ) → AllByRecursion (λ c. pairs_at (state_of v) t d c ≡ false) v.edges.now → EdgeShut (at_tick t (state_of v)) d
   shut_unpaired t f r =
@@ -87,8 +85,8 @@ module _ (v : View) (d : Edge) (leaves : leaves_current (state_of v).plan v.plac
       by (inl g) = All-weaker (λ c. fits (at_tick t (state_of v)) d c ≡ false) (λ c. pairs_at (state_of v) t d c ≡ false) (λ c e. and_right (guard t) (fits (at_tick t (state_of v)) d c) e) v.edges.now (f (and_from _ _ leaves g)).1
       by (inr g) = all_of (λ c. pairs_at (state_of v) t d c ≡ false) v.edges.now (λ c. and_left (guard t) (fits (at_tick t (state_of v)) d c) g)
 
-  pub waits_for_a_partner : (reach r : ℕ) → ViewReaches v (λ t. AllByRecursion (λ c. pairs_at (state_of v) t d c ≡ false) v.edges.now) reach r → ViewReaches v (λ t. EdgeShut (at_tick t (state_of v)) d) reach r
-  waits_for_a_partner reach r p z l m = reaches_same v.now (λ t. AllByRecursion (λ c. pairs_at (state_of v) t d c ≡ false) v.edges.now) (λ t. EdgeShut (at_tick t (state_of v)) d) reach r (λ t a b. shut_unpaired t) (λ t a b. unpaired_shut t) (p z l m)
+  pub waits_for_a_partner : (s r : Stretch) → ViewFreePart v (λ t. AllByRecursion (λ c. pairs_at (state_of v) t d c ≡ false) v.edges.now) s r → ViewFreePart v (λ t. EdgeShut (at_tick t (state_of v)) d) s r
+  waits_for_a_partner s r p z = part_same (λ t. AllByRecursion (λ c. pairs_at (state_of v) t d c ≡ false) v.edges.now) (λ t. EdgeShut (at_tick t (state_of v)) d) s r (λ t a b. shut_unpaired t) (λ t a b. unpaired_shut t) (p z)
 
 -- no edge is open where each is shut
 module _ (s : State) where
@@ -105,5 +103,5 @@ module _ (s : State) where
     all_from_nth (λ c. fits s d c ≡ false) s.plan.edges (λ p q c f. never_true (fits s d c) (λ h. n k (Some p) d (Some c) (record { found = e; is_ready = r; joins = (f, h) }))),
   ))
 
-pub none_opens : (v : View) (reach r : ℕ) → ViewReaches v (λ t. AllByRecursion (λ d. EdgeShut (at_tick t (state_of v)) d) v.edges.now) reach r → ViewReaches v (λ t. NoneOpen (at_tick t (state_of v))) reach r
-none_opens v reach r p z l m = reaches_same v.now (λ t. AllByRecursion (λ d. EdgeShut (at_tick t (state_of v)) d) v.edges.now) (λ t. NoneOpen (at_tick t (state_of v))) reach r (λ t a b. none_open (at_tick t (state_of v))) (λ t a b. all_shut (at_tick t (state_of v))) (p z l m)
+pub none_opens : (v : View) (s r : Stretch) → ViewFreePart v (λ t. AllByRecursion (λ d. EdgeShut (at_tick t (state_of v)) d) v.edges.now) s r → ViewFreePart v (λ t. NoneOpen (at_tick t (state_of v))) s r
+none_opens v s r p z = part_same (λ t. AllByRecursion (λ d. EdgeShut (at_tick t (state_of v)) d) v.edges.now) (λ t. NoneOpen (at_tick t (state_of v))) s r (λ t a b. none_open (at_tick t (state_of v))) (λ t a b. all_shut (at_tick t (state_of v))) (p z)

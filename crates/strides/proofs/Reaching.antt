@@ -1,17 +1,19 @@
--- Obstacles one behind the other: each lowers the reach that the one before has left.
-use Rattle.std.proofs.Common.{◌≡◌, ℕ, zero, suc, ◌+◌, ◌<◌, ◌≤◌, ◌⊎◌, List, [], ◌∷◌, length, Some, None, sym, refl, subst, inl, inr, arith}
+-- Obstacles one behind the other: each leaves the front part of what the one before has left.
+use Rattle.std.proofs.Common.{◌≡◌, ℕ, zero, suc, ◌+◌, ◌<◌, ◌≤◌, ◌⊎◌, List, [], ◌∷◌, ◌++◌, length, take, Some, None, sym, refl, ap, ◌∙◌, subst, inl, inr, arith}
 use Rattle.std.specs.List.{slice_get, AllByRecursion}
 use Rattle.std.proofs.lemmas.Bool.{cases_lt}
-use Rattle.runs.proofs.Searching.{below_more}
-use Rattle.strides.specs.Reach.{Reaches}
+use Rattle.std.proofs.lemmas.List.{take_more, take_all}
+use Rattle.std.proofs.lemmas.Option.{slice_get_within, get_or_from_slice_get, none-some}
+use Rattle.strides.specs.declared.stretch.Stretch.{Stretch}
+use Rattle.strides.specs.Reach.{Reaches, FreePart}
 
 module _ (from : ℕ) where
   -- nothing in the way
-  pub reaches_all : (P : ℕ → Type 0) (reach : ℕ) → from ≤ reach → ((t : ℕ) → from < t → t ≤ reach → P t) → Reaches P from reach reach
+  reaches_all : (P : ℕ → Type 0) (reach : ℕ) → from ≤ reach → ((t : ℕ) → from < t → t ≤ reach → P t) → Reaches P from reach reach
   reaches_all P reach h free = record { ahead = h; within = omega arith; free_to = free; stops = λ l f. omega arith }
 
   -- the same obstacle in other words
-  pub reaches_same : (P Q : ℕ → Type 0) (reach r : ℕ) → ((t : ℕ) → from < t → t ≤ reach → P t → Q t) → ((t : ℕ) → from < t → t ≤ reach → Q t → P t) → Reaches P from reach r → Reaches Q from reach r
+  reaches_same : (P Q : ℕ → Type 0) (reach r : ℕ) → ((t : ℕ) → from < t → t ≤ reach → P t → Q t) → ((t : ℕ) → from < t → t ≤ reach → Q t → P t) → Reaches P from reach r → Reaches Q from reach r
   reaches_same P Q reach r to back h = record {
     ahead = h.ahead;
     within = h.within;
@@ -20,7 +22,7 @@ module _ (from : ℕ) where
   }
 
   -- two obstacles
-  pub reaches_both : (P Q : ℕ → Type 0) (reach m r : ℕ) → Reaches P from reach m → Reaches Q from m r → Reaches (λ t. P t × Q t) from reach r
+  reaches_both : (P Q : ℕ → Type 0) (reach m r : ℕ) → Reaches P from reach m → Reaches Q from m r → Reaches (λ t. P t × Q t) from reach r
   reaches_both P Q reach m r p q = record {
     ahead = q.ahead;
     within = omega (arith, p.within, q.within);
@@ -32,13 +34,17 @@ module _ (from : ℕ) where
       by l f (inl h) = q.stops h f.1
       by l f (inr h) = let e : r ≡ m = omega (arith, q.within) in p.stops (omega arith) (subst (λ k. P (k + 1)) e f.0)
 
-  -- one more of a row of obstacles
-  pub reaches_more : (P : ℕ → ℕ → Type 0) (i reach m r : ℕ) → Reaches (λ t. (k : ℕ) → k < i → P k t) from reach m → Reaches (P i) from m r → Reaches (λ t. (k : ℕ) → k < i + 1 → P k t) from reach r
-  reaches_more P i reach m r p q =
-      reaches_same (λ t. ((k : ℕ) → k < i → P k t) × P i t) (λ t. (k : ℕ) → k < i + 1 → P k t) reach r
-      (λ t l h f. below_more (λ k. P k t) i f.0 f.1)
-      (λ t l h f. (λ k b. f k (omega arith), f i (omega arith)))
-      (reaches_both (λ t. (k : ℕ) → k < i → P k t) (P i) reach m r p q)
+-- nothing in the way
+pub part_whole : (P : ℕ → Type 0) (s : Stretch) → ((t : ℕ) → s.from < t → t ≤ s.to → P t) → FreePart P s s
+part_whole P s free = record { same_start = refl; reaches = reaches_all s.from P s.to s.forward free }
+
+-- the same obstacle in other words
+pub part_same : (P Q : ℕ → Type 0) (s r : Stretch) → ((t : ℕ) → s.from < t → t ≤ s.to → P t → Q t) → ((t : ℕ) → s.from < t → t ≤ s.to → Q t → P t) → FreePart P s r → FreePart Q s r
+part_same P Q s r to back h = record { same_start = h.same_start; reaches = reaches_same s.from P Q s.to r.to to back h.reaches }
+
+-- two obstacles
+pub part_both : (P Q : ℕ → Type 0) (s m r : Stretch) → FreePart P s m → FreePart Q m r → FreePart (λ t. P t × Q t) s r
+part_both P Q s m r p q = record { same_start = q.same_start ∙ p.same_start; reaches = reaches_both s.from P Q s.to m.to r.to p.reaches (subst (λ f. Reaches Q f m.to r.to) p.same_start q.reaches) }
 
 -- all of a list, by place
 pub all_from_nth : {X : Type 0} (P : X → Type 0) (xs : List X) → ((k : ℕ) → k < length xs → (x : X) → slice_get xs k ≡ Some x → P x) → AllByRecursion P xs
@@ -50,32 +56,45 @@ nth_from_all P [] h k x e = let z : ◌≡◌ {A = ℕ} 0 1 = cc in absurd (omeg
 nth_from_all P (y ∷ ys) h zero x e = let q : y ≡ x = cc in subst P q h.0
 nth_from_all P (y ∷ ys) h (suc k) x e = nth_from_all P ys h.1 k x e
 
+-- all of a list and one more
+all_push : {X : Type 0} (P : X → Type 0) (xs : List X) (x : X) → AllByRecursion P xs → P x → AllByRecursion P (xs ++ (x ∷ []))
+all_push P [] x a p = (p, tt)
+all_push P (y ∷ ys) x a p = (a.0, all_push P ys x a.1 p)
+
+all_pop : {X : Type 0} (P : X → Type 0) (xs : List X) (x : X) → AllByRecursion P (xs ++ (x ∷ [])) → AllByRecursion P xs × P x
+all_pop P [] x a = (tt, a.0)
+all_pop P (y ∷ ys) x a = let r = all_pop P ys x a.1 in ((a.0, r.0), r.1)
+
+slice_get_none : {X : Type 0} (xs : List X) (i : ℕ) → slice_get xs i ≡ None → length xs ≤ i
+slice_get_none [] i e = omega arith
+slice_get_none (x ∷ xs) zero e = absurd (none-some x (sym e))
+slice_get_none (x ∷ xs) (suc i) e = let h = slice_get_none xs i e in omega arith
+
 -- a row, each of whose items may be an obstacle
-module _ {X : Type 0} (P : X → ℕ → Type 0) (xs : List X) where
-  -- none of the first n is
-  abbrev pub FreeBelow : ℕ → ℕ → Type 0
-  FreeBelow n t = (k : ℕ) → k < n → (x : X) → slice_get xs k ≡ Some x → P x t
+module _ {X : Type 0} (P : X → ℕ → Type 0) where
+  abbrev pub AllFree : List X → ℕ → Type 0
+  AllFree xs t = AllByRecursion (λ x. P x t) xs
 
-  module _ (from reach : ℕ) where
-    pub row_none : from ≤ reach → Reaches (FreeBelow 0) from reach reach
-    row_none h = reaches_all from (FreeBelow 0) reach h (λ t l m k b. absurd (omega arith))
+  pub row_none : (s : Stretch) → FreePart (AllFree []) s s
+  row_none s = part_whole (AllFree []) s (λ t l h. tt)
 
-    pub row_more : (i m r end : ℕ) (x : X) → end ≡ r → slice_get xs i ≡ Some x → Reaches (FreeBelow i) from reach m → Reaches (P x) from m r → Reaches (FreeBelow (i + 1)) from reach end
-    row_more i m r end x is e p q =
-        reaches_more from (λ k t. (y : X) → slice_get xs k ≡ Some y → P y t) i reach m end p
-        (reaches_same from (P x) (λ t. (y : X) → slice_get xs i ≡ Some y → P y t) m end
-        (λ t l h f y g. let a = e in let s : x ≡ y = cc in subst (λ z. P z t) s f)
-        (λ t l h f. f x e) (subst (Reaches (P x) from m) (sym is) q))
+  pub row_more : (xs : List X) (x : X) (s m r : Stretch) → FreePart (AllFree xs) s m → FreePart (P x) m r → FreePart (AllFree (xs ++ (x ∷ []))) s r
+  row_more xs x s m r p q =
+      part_same (λ t. AllFree xs t × P x t) (AllFree (xs ++ (x ∷ []))) s r
+      (λ t l h f. all_push (λ y. P y t) xs x f.0 f.1) (λ t l h f. all_pop (λ y. P y t) xs x f)
+      (part_both (AllFree xs) (P x) s m r p q)
 
-    -- a place without an item
-    pub row_skip : (i m end : ℕ) → end ≡ m → slice_get xs i ≡ None → Reaches (FreeBelow i) from reach m → Reaches (FreeBelow (i + 1)) from reach end
-    row_skip i m end is e p =
-        subst (Reaches (FreeBelow (i + 1)) from reach) (sym is)
-        (reaches_more from (λ k t. (y : X) → slice_get xs k ≡ Some y → P y t) i reach m m p
-        (reaches_all from (λ t. (y : X) → slice_get xs i ≡ Some y → P y t) m p.ahead (λ t l h y g. let a = e in let z : ◌≡◌ {A = ℕ} 0 1 = cc in absurd (omega arith))))
+  -- by place
+  pub place_more : (xs : List X) (i : ℕ) (x : X) (s m r end : Stretch) → end ≡ r → slice_get xs i ≡ Some x → FreePart (AllFree (take i xs)) s m → FreePart (P x) m r → FreePart (AllFree (take (i + 1) xs)) s end
+  place_more xs i x s m r end is e p q =
+      let more : take (i + 1) xs ≡ take i xs ++ (x ∷ []) = take_more xs i x (slice_get_within xs i x e) ∙ ap (λ y. take i xs ++ (y ∷ [])) (get_or_from_slice_get xs i x x e) in
+      subst (λ z. FreePart (AllFree (take (i + 1) xs)) s z) (sym is) (subst (λ ys. FreePart (AllFree ys) s r) (sym more) (row_more (take i xs) x s m r p q))
 
-    pub row_all : (n r : ℕ) → length xs ≤ n → Reaches (FreeBelow n) from reach r → Reaches (λ t. AllByRecursion (λ x. P x t) xs) from reach r
-    row_all n r h p =
-        reaches_same from (FreeBelow n) (λ t. AllByRecursion (λ x. P x t) xs) reach r
-        (λ t l m f. all_from_nth (λ x. P x t) xs (λ k b. f k (omega arith)))
-        (λ t l m f k b. nth_from_all (λ x. P x t) xs f k) p
+  pub place_skip : (xs : List X) (i : ℕ) (s m end : Stretch) → end ≡ m → slice_get xs i ≡ None → FreePart (AllFree (take i xs)) s m → FreePart (AllFree (take (i + 1) xs)) s end
+  place_skip xs i s m end is e p =
+      let past = slice_get_none xs i e in
+      let same : take (i + 1) xs ≡ take i xs = take_all (i + 1) xs (omega arith) ∙ sym (take_all i xs past) in
+      subst (λ z. FreePart (AllFree (take (i + 1) xs)) s z) (sym is) (subst (λ ys. FreePart (AllFree ys) s m) (sym same) p)
+
+  pub place_all : (xs : List X) (i : ℕ) (s r : Stretch) → length xs ≤ i → FreePart (AllFree (take i xs)) s r → FreePart (AllFree xs) s r
+  place_all xs i s r h p = subst (λ ys. FreePart (AllFree ys) s r) (take_all i xs h) p

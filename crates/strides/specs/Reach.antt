@@ -3,12 +3,12 @@ use Rattle.std.specs.Prelude.{◌≡◌, ℕ, ◌+◌, ◌<◌, ◌≤◌, Bool,
 use Rattle.std.specs.List.{AllByRecursion}
 use Rattle.sources.specs.declared.trigger.Trigger.{Trigger}
 use Rattle.parts.specs.declared.part.Edge.{Edge}
-use Rattle.parts.specs.Limits.{last_tick}
 use Rattle.runs.specs.State.{State, automaton}
 use Rattle.runs.specs.Guards.{guard_holds}
 use Rattle.runs.specs.Edges.{leaves_current, ready, goes_alone, opposite, fits}
 use Rattle.guards.specs.Spans.{ZeroedBy}
 use Rattle.search.specs.declared.view.View.{View}
+use Rattle.strides.specs.declared.stretch.Stretch.{Stretch}
 use Rattle.strides.specs.Quiet.{at_tick}
 
 -- behind a tick all ticks up to r are free, and the next one is not, unless r is as far as was asked
@@ -18,9 +18,14 @@ pub record Reaches (free : ℕ → Type 0) (from reach r : ℕ) : Type 0 where
   pub free_to : (t : ℕ) → from < t → t ≤ r → free t
   pub stops : r < reach → free (r + 1) → ⊥
 
--- the same from a view's tick on; it is right up to the last tick, where no clock is zeroed later than now
-abbrev pub ViewReaches : View → (ℕ → Type 0) → (reach r : ℕ) → Type 0
-ViewReaches v free reach r = ZeroedBy v.zeroed.now v.now → v.now ≤ reach → reach ≤ last_tick → Reaches free v.now reach r
+-- the part of a stretch in front of the first tick that is not free
+pub record FreePart (free : ℕ → Type 0) (s r : Stretch) : Type 0 where
+  pub same_start : r.from ≡ s.from
+  pub reaches : Reaches free s.from s.to r.to
+
+-- the same by a view; it is right where no clock is zeroed later than the stretch starts
+abbrev pub ViewFreePart : View → (ℕ → Type 0) → Stretch → Stretch → Type 0
+ViewFreePart v free s r = ZeroedBy v.valuation.zeroed.now s.from → FreePart free s r
 
 -- the first trigger to come, if any, comes behind a tick
 abbrev pub ComesBehind : ℕ → Option Trigger → Type 0

@@ -17,8 +17,8 @@ pub record Shown (v : View) (q : ReadyQueue) (first : Option Trigger) (s : State
   pub locations : v.locations.now ≡ s.plan.locations
   pub now : v.now ≡ s.now
   pub places : v.places.now ≡ s.places
-  pub zeroed : v.zeroed.now ≡ s.zeroed
-  pub values : v.values.now ≡ s.values
+  pub zeroed : v.valuation.zeroed.now ≡ s.zeroed
+  pub values : v.valuation.values.now ≡ s.values
   pub present : v.present.now ≡ s.present
   pub jobs : waiting q ≡ s.waiting
   pub comes : first ≡ slice_get s.coming 0

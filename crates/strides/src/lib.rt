@@ -8,14 +8,13 @@ ghost use Rattle.strides.specs.Strides.{Shown, Closed, StrideEnd};
 pub mod by_edges;
 pub mod by_invariants;
 pub mod by_time;
+pub mod stretch;
 
-use by_edges::by_edges;
-use by_invariants::by_invariants;
-use by_time::{by_deadlines, by_first_job, by_trigger};
 use parts::LAST_TICK;
 use ready_queue::queue::ReadyQueue;
 use search::view::View;
 use sources::trigger::Trigger;
+use stretch::Stretch;
 
 // The last tick, up to `until`, to which ticks pass together from a closed one.
 // A stride stops in front of the tick at which the first job is done, a job is late, a trigger comes, an edge opens or an
@@ -27,11 +26,16 @@ pub fn stride_end(view: &View, queue: &ReadyQueue, first: Option<Trigger>, until
     if reach <= view.now {
         return view.now;
     }
-    let done = by_first_job(queue, view.now, reach);
-    let late = by_deadlines(queue, view.now, done);
-    let trigger = by_trigger(first, view.now, late);
-    let invariant = by_invariants(view, trigger);
-    by_edges(view, invariant)
+    Stretch {
+        from: view.now,
+        to: reach,
+    }
+    .before_first_job(queue)
+    .before_deadlines(queue)
+    .before_trigger(first)
+    .before_invariants(view)
+    .before_edges(view)
+    .to
 }
 
 // Quiet ticks, passed together, are a strict run without lines.

@@ -1,4 +1,4 @@
-use Rattle.std.proofs.Common.{arith}
+use Rattle.std.proofs.Common.{refl, arith}
 use Rattle.strides.proofs.Ending.{zeroed_shown, all_obstacles, stride_ends}
 use Rattle.strides.proofs.stride_end.Goals as goal
 
@@ -7,10 +7,6 @@ returns c s shown closed =
     let v = c.args.view.now in
     let q = c.args.queue.now in
     let z = zeroed_shown v q c.args.first s shown closed in
-    let done = c.by_first_job-done.ensures (omega arith) in
-    let late = c.by_deadlines-late.ensures done.ahead in
-    let trigger = c.by_trigger-trigger.ensures late.ahead in
-    let invariant = c.by_invariants-invariant.ensures trigger.ahead in
-    let edge = c.by_edges.ensures z invariant.ahead (omega (arith, invariant.within, trigger.within, late.within, done.within)) in
-    stride_ends v q c.args.first s shown closed c.args.until c.min-reach.result c.by_edges.result (omega arith) (omega arith)
-    (all_obstacles v q c.args.first c.min-reach.result c.by_first_job-done.result c.by_deadlines-late.result c.by_trigger-trigger.result c.by_invariants-invariant.result c.by_edges.result done late trigger invariant edge)
+    stride_ends v q c.args.first s shown closed c.args.until c.min-reach.result c.before_edges.result.to (omega arith) (omega arith)
+    (all_obstacles v q c.args.first _ c.before_first_job.result c.before_deadlines.result c.before_trigger.result c.before_invariants.result c.before_edges.result refl c.before_first_job.ensures c.before_deadlines.ensures c.before_trigger.ensures c.before_invariants.ensures
+    (c.before_edges.ensures (λ k. omega (arith, z k, c.before_first_job.ensures.same_start, c.before_deadlines.ensures.same_start, c.before_trigger.ensures.same_start, c.before_invariants.ensures.same_start))))

@@ -1,6 +1,0 @@
-use Rattle.std.proofs.Common.{sym}
-use Rattle.strides.proofs.Opening.{waits_for_a_partner}
-use Rattle.strides.proofs.by_edges.by_edge.Goals as goal
-
-pub returns-else-goes_alone : goal.returns-else-goes_alone
-returns-else-goes_alone c = waits_for_a_partner c.args.view.now c.args.edge.now (sym c.if-not-leaves_current.ensures) (sym c.if-goes_alone.ensures) c.args.reach c.by_partners.result c.by_partners.ensures

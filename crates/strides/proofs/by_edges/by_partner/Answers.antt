@@ -1,9 +1,0 @@
-use Rattle.std.proofs.Common.{sym}
-use Rattle.strides.proofs.Opening.{never_together, together}
-use Rattle.strides.proofs.by_edges.by_partner.Goals as goal
-
-pub returns-then-not-could_join : goal.returns-then-not-could_join
-returns-then-not-could_join c = never_together c.args.view.now c.args.edge.now c.args.partner.now c.args.reach (sym c.if-not-could_join.ensures)
-
-pub returns : goal.returns
-returns c = together c.args.view.now c.args.edge.now c.args.partner.now c.args.reach c.guard_span-own.result c.guard_span-other.result c.meet.result c.guard_span-own.ensures c.guard_span-other.ensures c.meet.ensures.low c.meet.ensures.high (sym c.if-not-could_join.ensures) c.before_span.result c.before_span.ensures

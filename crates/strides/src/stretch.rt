@@ -1,0 +1,24 @@
+// The ticks behind `from` up to `to`, to be passed together.
+ghost use Rattle.std.specs.Prelude.{◌≡◌, ◌≤◌, min, max};
+ghost use Rattle.parts.specs.Limits.{last_tick};
+
+#[derive(Clone, Copy)]
+pub struct Stretch {
+    pub from: u32,
+    pub to: u32,
+    ghost forward: { from ≤ to },
+    ghost in_run: { to ≤ last_tick },
+}
+
+impl Stretch {
+    // The stretch up to a tick at most, but not below where it starts.
+    pub fn lowered(self, to: u32) -> Stretch
+        ensures from { result.from ≡ self.from }
+        ensures to { result.to ≡ min self.to (max to self.from) }
+    {
+        Stretch {
+            from: self.from,
+            to: self.to.min(to.max(self.from)),
+        }
+    }
+}
