@@ -1,7 +1,7 @@
 // The parts of a sequence, and the limits that each has to keep.
 #![tactic(auto)]
 
-ghost use Rattle.std.specs.Prelude.{◌≡◌, Bool};
+ghost use Rattle.std.specs.Prelude.{◌≡◌, Bool, slice_set};
 ghost use Rattle.std.specs.List.{slice_get};
 ghost use Rattle.parts.specs.declared.part.Scope.{Scope};
 ghost use Rattle.parts.specs.Limits.{group_fits, counts_fit, variable_fits, assignment_fits, reset_fits, invariant_fits, condition_fits, label_fits, task_fits, location_fits, edge_fits, present_or_none};
@@ -67,10 +67,16 @@ impl Refers for Condition {
 pub fn item<T: Copy>(row: &[T], place: usize) -> Option<T>
     ensures { result ≡ slice_get row.now place }
 {
+    row.get(place).copied()
+}
+
+// Puts a value at a place; behind the end nothing changes.
+pub fn set_item<T: Copy>(row: &mut [T], place: usize, x: T)
+    ensures { row.new ≡ slice_set row.old place x }
+{
+    // by place: the library's `get_mut` says nothing of what the slice ends as
     if place < row.len() {
-        Some(row[place])
-    } else {
-        None
+        row[place] = x;
     }
 }
 
@@ -78,10 +84,7 @@ pub fn item<T: Copy>(row: &[T], place: usize) -> Option<T>
 fn is_there(number: Option<u8>, count: usize) -> bool
     ensures { result ≡ present_or_none number count }
 {
-    match number {
-        None => true,
-        Some(n) => (n as usize) < count,
-    }
+    number.is_none_or(|n| (n as usize) < count)
 }
 
 // Whether the first places of a group are in use and each part in it fits.
