@@ -7,7 +7,7 @@ pub enum Due {
     LateJob(Job),
     FinishedJob(Job),
     Trigger(Trigger),
-    // the foremost open edge and its partner
+    // the foremost open edge and its partner, two numbers as in the line that names them
     OpenEdge(u8, Option<u8>),
     // the lowest present trigger, to close with
     PresentTrigger(u8),

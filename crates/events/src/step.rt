@@ -5,7 +5,7 @@ ghost use Rattle.runs.specs.Values.{assign_edges};
 ghost use Rattle.machine.specs.Model.{model};
 ghost use Rattle.moves.specs.Assigning.{Assigns};
 ghost use Rattle.moves.specs.Changes.{releases, releases_at, side_taken, sides_taken};
-ghost use Rattle.events.specs.Steps.{listed, step_cause, StepTaken};
+ghost use Rattle.events.specs.Steps.{listed, StepTaken};
 
 use crate::sides::Sides;
 use jobs::Order;
@@ -41,10 +41,7 @@ fn has_room(engine: &Engine, sides: &Sides) -> bool
     ensures { result ≡ nat_le (length (model [] engine.now.core).waiting + releases (model [] engine.now.core).plan (listed sides.now)) 32 }
 {
     let first = engine.releases(sides.first.to);
-    let second = match sides.second {
-        Some(edge) => engine.releases(edge.to),
-        None => 0,
-    };
+    let second = sides.second.map_or(0, |edge| engine.releases(edge.to));
     engine.core.queue.len() + first + second <= MOST_JOBS
 }
 
@@ -52,10 +49,11 @@ fn has_room(engine: &Engine, sides: &Sides) -> bool
 fn assign_sides(engine: &mut Engine, sides: &Sides, room: bool) -> Result<(), StepFault>
     ensures { Assigns room (assign_edges (model [] engine.old.core).plan.variables (listed sides.now) (model [] engine.old.core).values) (model [] engine.old.core) (model [] engine.new.core) result }
 {
-    match sides.second {
-        Some(edge) => engine.assign(&sides.first.assignments, &edge.assignments, room),
-        None => engine.assign(&sides.first.assignments, &[], room),
-    }
+    let second = sides
+        .second
+        .as_ref()
+        .map_or(&[][..], |edge| &edge.assignments);
+    engine.assign(&sides.first.assignments, second, room)
 }
 
 // What one side of a step changes beside the variables.
@@ -77,16 +75,6 @@ fn take_sides<O: Order>(engine: &mut Engine, order: &O, sides: &Sides)
     }
 }
 
-// Why a run ends at a refused step.
-fn cause_of(fault: StepFault) -> Cause
-    ensures { result ≡ step_cause fault }
-{
-    match fault {
-        StepFault::Range => Cause::EdgeRange,
-        StepFault::Room => Cause::Overload,
-    }
-}
-
 // An edge is taken with its partner, or the answer says why not and nothing has changed.
 pub fn take<O: Order>(
     engine: &mut Engine,
@@ -100,10 +88,7 @@ pub fn take<O: Order>(
         return Err(Cause::StepLimit);
     }
     let sides = Sides::new(edge, partner);
-    match assign_sides(engine, &sides, has_room(engine, &sides)) {
-        Ok(()) => {}
-        Err(fault) => return Err(cause_of(fault)),
-    }
+    assign_sides(engine, &sides, has_room(engine, &sides))?;
     take_sides(engine, order, &sides);
     engine.count_step(edge.label);
     Ok(())

@@ -18,10 +18,12 @@ pub mod engine_core;
 use engine_core::Core;
 use guards::valuation::Valuation;
 use jobs::job::Job;
+use parts::set_item;
 use runs::event::{Phase, Worker};
 use search::view::View;
 
-// The numbers of edges: all are candidates.
+// The numbers of edges: all are candidates. Written out: no constant can be computed here, and a list made at each call
+// would cost its 128 writes.
 const EDGE_NUMBERS: [u8; 128] = [
     0, 1, 2, 3, 4, 5, 6, 7, 8, 9, 10, 11, 12, 13, 14, 15, 16, 17, 18, 19, 20, 21, 22, 23, 24, 25,
     26, 27, 28, 29, 30, 31, 32, 33, 34, 35, 36, 37, 38, 39, 40, 41, 42, 43, 44, 45, 46, 47, 48, 49,
@@ -31,16 +33,35 @@ const EDGE_NUMBERS: [u8; 128] = [
     117, 118, 119, 120, 121, 122, 123, 124, 125, 126, 127,
 ];
 
-// Sets what stands at a place; behind the end nothing changes.
-fn set_item<T: Copy>(row: &mut [T], place: usize, x: T)
-    ensures { row.new ≡ slice_set row.old place x }
-{
-    if place < row.len() {
-        row[place] = x;
-    }
-}
-
 impl Core {
+    // The current location of each automaton.
+    pub fn places(&self) -> &[u8]
+        ensures { result.now ≡ (model [] self.entry.now).places }
+    {
+        &self.places[..self.sequence.counts().automata as usize]
+    }
+
+    // The tick of each clock's last zeroing.
+    pub fn zeroed(&self) -> &[u32]
+        ensures { result.now ≡ (model [] self.entry.now).zeroed }
+    {
+        &self.zeroed[..self.sequence.counts().clocks as usize]
+    }
+
+    // The value of each variable.
+    pub fn values(&self) -> &[i16]
+        ensures { result.now ≡ (model [] self.entry.now).values }
+    {
+        &self.values[..self.sequence.variables().len()]
+    }
+
+    // Which triggers are present.
+    pub fn present(&self) -> &[bool]
+        ensures { result.now ≡ (model [] self.entry.now).present }
+    {
+        &self.present[..self.sequence.counts().triggers as usize]
+    }
+
     // The first job past its deadline.
     pub fn late_job(&self) -> Option<Job>
         ensures { result ≡ first_late self.entry.now.now (waiting self.entry.now.queue) }
@@ -52,17 +73,14 @@ impl Core {
     pub fn finished_job(&self) -> Option<Job>
         ensures { result ≡ finished (waiting self.entry.now.queue) }
     {
-        match self.queue.first() {
-            Some(job) => { if job.remaining == 0 { Some(job) } else { None } }
-            None => None,
-        }
+        self.queue.first().filter(|job| job.remaining == 0)
     }
 
     // The first job leaves, if nothing remains to it.
     pub fn remove_finished(&mut self)
         ensures { model [] self.exit.now ≡ with_jobs (without_finished (waiting self.entry.now.queue)) (model [] self.entry.now).values (model [] self.entry.now) }
     {
-        if let Some(_) = self.finished_job() {
+        if self.finished_job().is_some() {
             self.queue.remove_first();
         }
     }
@@ -94,13 +112,10 @@ impl Core {
         ensures after { model [] self.exit.now ≡ next_tick (model [] self.entry.now) }
         ensures works { result ≡ worker (waiting self.entry.now.queue) }
     {
-        let worker = match self.queue.serve() {
-            Some(job) => Some(Worker {
-                job: job.number,
-                task: job.task,
-            }),
-            None => None,
-        };
+        let worker = self.queue.serve().map(|job| Worker {
+            job: job.number,
+            task: job.task,
+        });
         self.now += 1;
         self.phase = Phase::Late;
         self.steps = 0;
@@ -111,25 +126,22 @@ impl Core {
     pub fn mark(&mut self, trigger: u8, present: bool)
         ensures { model [] self.exit.now ≡ with_triggers (slice_set (model [] self.entry.now).present trigger present) [] (model [] self.entry.now) }
     {
-        let mut row = self.present;
-        set_item(&mut row, trigger as usize, present);
-        self.present = row;
+        set_item(&mut self.present, trigger as usize, present);
     }
 
     // What decides which edges are open.
     pub fn view(&self) -> View<'_>
         ensures { Shows (model [] self.entry.now) (state_of result) }
     {
-        let counts = self.sequence.counts();
         View {
             edges: self.sequence.edges(),
             locations: self.sequence.locations(),
-            places: &self.places[0..counts.automata as usize],
+            places: self.places(),
             valuation: Valuation {
-                zeroed: &self.zeroed[0..counts.clocks as usize],
-                values: &self.values[0..self.sequence.variables().len()],
+                zeroed: self.zeroed(),
+                values: self.values(),
             },
-            present: &self.present[0..counts.triggers as usize],
+            present: self.present(),
             now: self.now,
         }
     }
@@ -139,6 +151,6 @@ impl Core {
         ensures { Finds (model [] self.entry.now) result }
     {
         let count = self.sequence.edges().len();
-        self.view().foremost(&EDGE_NUMBERS[0..count])
+        self.view().foremost(&EDGE_NUMBERS[..count])
     }
 }

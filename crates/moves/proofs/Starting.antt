@@ -1,7 +1,12 @@
 -- The parts of the state that a run starts in, place by place.
-use Rattle.std.proofs.Common.{◌≡◌, ℕ, zero, suc, ◌+◌, ◌<◌, ◌≤◌, Bool, true, false, ◌&&◌, leb, List, [], ◌∷◌, ◌++◌, length, get_or, take, drop, set, replicate, ℤ, sym, refl, ap, ◌∙◌, arith}
-use Rattle.std.proofs.lemmas.List.{at_drop_more, at_drop_all, take_more_set, take_all}
-use Rattle.std.proofs.lemmas.Bool.{cond-true, cond-false, eq-eqb, ne_eqb, and_parts, leb-true}
+use Rattle.std.proofs.Common.{◌≡◌, ℕ, zero, suc, ◌+◌, ◌<◌, ◌≤◌, Bool, true, false, cond, not, ◌&&◌, eqb, ltb, leb, List, [], ◌∷◌, length, get_or, take, map, position, replicate, ℤ, pos, Some, None, Option, sym, refl, ap, ◌∙◌, subst, add-zero, arith}
+use Rattle.std.proofs.lemmas.Bool.{lt-ltb, and_parts, leb-true}
+use Rattle.std.proofs.lemmas.Bool.Decides.{nat_tests}
+use Rattle.std.proofs.lemmas.List.FromFn.{fill_by_all, take-map-range_with_len}
+use Rattle.std.specs.Array.{IsFromFnResult, IsFromFnResultFrom}
+use Rattle.std.specs.Fn.{Mut, Called}
+use Rattle.std.specs.List.{range_with_len, position_or_len}
+use Rattle.std.specs.Option.{unwrap_or}
 use Rattle.parts.specs.declared.part.Location.{Location}
 use Rattle.parts.specs.declared.part.Variable.{Variable}
 use Rattle.jobs.specs.declared.job.Job.{Job}
@@ -12,43 +17,58 @@ use Rattle.runs.specs.declared.event.Phase.TheVariants.{Late}
 use Rattle.runs.specs.State.{State, lowest, starting_places, starting_values, start}
 use Rattle.runs.specs.Values.{no_variable}
 
-module _ (a : ℕ) (ls : List Location) (i : ℕ) (d : Location) (inside : i < length ls) (inv : lowest a i (drop i ls) ≡ lowest a 0 ls) where
-  pub lowest_here : (get_or ls i d).automaton ≡ a → i ≡ lowest a 0 ls
-  lowest_here h = sym (sym inv ∙ at_drop_more (lowest a i) ls i d inside ∙ cond-true _ _ _ (eq-eqb _ _ h))
+-- the first location of an automaton, or 0 where none is found, is its lowest
+abbrev place_of : ℕ → List Location → ℕ
+place_of a ls = position_or_len (λ (l : Location). eqb l.automaton a) ls
 
-  pub lowest_later : ((get_or ls i d).automaton ≡ a → ⊥) → lowest a (i + 1) (drop (i + 1) ls) ≡ lowest a 0 ls
-  lowest_later h = sym (at_drop_more (lowest a i) ls i d inside ∙ cond-false _ _ _ (ne_eqb _ _ h)) ∙ inv
+lowest_from : (a i : ℕ) (ls : List Location) → unwrap_or (cond (ltb (place_of a ls) (length ls)) (Some (i + place_of a ls)) None) 0 ≡ lowest a i ls
+lowest_from a i [] = refl
+lowest_from a i (l ∷ ls) = by (lowest_from a (i + 1) ls) (eqb l.automaton a)
+  where
+    by : unwrap_or (cond (ltb (place_of a ls) (length ls)) (Some ((i + 1) + place_of a ls)) None) 0 ≡ lowest a (i + 1) ls → (b : Bool) → unwrap_or (cond (ltb (cond (not b) (1 + place_of a ls) 0) (length (l ∷ ls))) (Some (i + cond (not b) (1 + place_of a ls) 0)) None) 0 ≡ cond b i (lowest a (i + 1) ls)
+    by h true = let e : ltb 0 (length (l ∷ ls)) ≡ true = lt-ltb 0 (length (l ∷ ls)) (omega arith) in ap (λ t. unwrap_or (cond t (Some (i + 0)) None) 0) e ∙ add-zero i
+    by h false =
+        let e : ltb (1 + place_of a ls) (length (l ∷ ls)) ≡ ltb (place_of a ls) (length ls) = grind (arith, nat_tests) in
+        let f : i + (1 + place_of a ls) ≡ (i + 1) + place_of a ls = omega arith in
+        ap (λ t. unwrap_or (cond t (Some (i + (1 + place_of a ls))) None) 0) e ∙ (ap (λ k. unwrap_or (cond (ltb (place_of a ls) (length ls)) (Some k) None) 0) f ∙ h)
 
-pub lowest_none : (a : ℕ) (ls : List Location) (i : ℕ) → length ls ≤ i → lowest a i (drop i ls) ≡ lowest a 0 ls → 0 ≡ lowest a 0 ls
-lowest_none a ls i h inv = sym (sym inv ∙ at_drop_all (lowest a i) ls i h)
+pub lowest_is : (a : ℕ) (ls : List Location) (r : Option ℕ) → r ≡ position (λ (l : Location). eqb l.automaton a) ls → unwrap_or r 0 ≡ lowest a 0 ls
+lowest_is a ls r e = let z : 0 + place_of a ls ≡ place_of a ls = omega arith in
+    ap (λ o. unwrap_or o 0) e ∙ (ap (λ k. unwrap_or (cond (ltb (place_of a ls) (length ls)) (Some k) None) 0) (sym z) ∙ lowest_from a 0 ls)
 
--- one automaton more
-places_from : (n a : ℕ) (ls : List Location) → starting_places n a ls ++ lowest (a + n) 0 ls ∷ [] ≡ starting_places (suc n) a ls
-places_from zero a ls = let e : a + 0 ≡ a = omega arith in ap (λ k. lowest k 0 ls ∷ []) e
-places_from (suc n) a ls = let e : a + suc n ≡ (a + 1) + n = omega arith in
-    ap (λ k. lowest a 0 ls ∷ (starting_places n (a + 1) ls ++ lowest k 0 ls ∷ [])) e ∙ ap (λ ps. lowest a 0 ls ∷ ps) (places_from n (a + 1) ls)
+-- a list made by calls at the numbers below its length, each of which gives what h gives
+module _ {F X : Type 0} (g : Mut F (ℕ × Unit {0}) X) (f : F) (h : ℕ → X) (calls : (i : ℕ) (y : X) (q : F) → Called g f (i, tt) y q → (q ≡ f) × (y ≡ h i)) (xs : List X) (d : X) where
+  made_at : (n i k : ℕ) → IsFromFnResultFrom g f xs i n → k < n → get_or xs (i + k) d ≡ h (i + k)
+  made_at zero i k m l = absurd (omega arith)
+  made_at (suc n) i zero m l =
+      let z : i + 0 ≡ i = omega arith in
+      ap (λ j. get_or xs j d) z ∙ (m.2.1 d ∙ ((calls i m.1 m.0 m.3).1 ∙ ap h (sym z)))
+  made_at (suc n) i (suc k) m l =
+      let z : i + suc k ≡ (i + 1) + k = omega arith in
+      let rest = subst (λ q. IsFromFnResultFrom g q xs (i + 1) n) (calls i m.1 m.0 m.3).0 m.4 in
+      ap (λ j. get_or xs j d) z ∙ (made_at n (i + 1) k rest (omega arith) ∙ ap h (sym z))
 
-pub places_more : (row : List ℕ) (i x : ℕ) (ls : List Location) → i < length row → x ≡ lowest i 0 ls → take i row ≡ starting_places i 0 ls → take (i + 1) (set row i x) ≡ starting_places (i + 1) 0 ls
-places_more row i x ls inside e inv =
-    let s : i + 1 ≡ suc i = omega arith in
-    let z : 0 + i ≡ i = omega arith in
-    take_more_set row i x inside ∙ ap (λ ps. ps ++ x ∷ []) inv ∙ ap (λ y. starting_places i 0 ls ++ y ∷ []) (e ∙ ap (λ k. lowest k 0 ls) (sym z)) ∙ places_from i 0 ls ∙ ap (λ k. starting_places k 0 ls) (sym s)
+  pub made : (n : ℕ) → IsFromFnResult g f xs n → xs ≡ map h (range_with_len 0 n)
+  made n m = fill_by_all h xs n d m.long (λ k l. let z : 0 + k ≡ k = omega arith in ap (λ j. get_or xs j d) (sym z) ∙ (made_at n 0 k m.each l ∙ ap h z))
 
--- one variable more
-values_from : (vs : List Variable) (i : ℕ) → i < length vs → starting_values (take (suc i) vs) ≡ starting_values (take i vs) ++ (get_or vs i no_variable).start ∷ []
-values_from [] i h = absurd (omega arith)
-values_from (v ∷ vs) zero h = refl
-values_from (v ∷ vs) (suc i) h = ap (λ zs. v.start ∷ zs) (values_from vs i (omega arith))
+  pub made_first : (n k : ℕ) → k ≤ n → IsFromFnResult g f xs n → take k xs ≡ map h (range_with_len 0 k)
+  made_first n k l m = ap (take k) (made n m) ∙ take-map-range_with_len h 0 n k l
 
-pub values_more : (row : List ℤ) (i : ℕ) (x : ℤ) (vs : List Variable) → i < length row → i < length vs → x ≡ (get_or vs i no_variable).start → take i row ≡ starting_values (take i vs) → take (i + 1) (set row i x) ≡ starting_values (take (i + 1) vs)
-values_more row i x vs inside h e inv =
-    let s : i + 1 ≡ suc i = omega arith in
-    take_more_set row i x inside ∙ ap (λ zs. zs ++ x ∷ []) inv ∙ ap (λ y. starting_values (take i vs) ++ y ∷ []) e ∙ sym (values_from vs i h) ∙ ap (λ k. starting_values (take k vs)) (sym s)
+pub places_made : (n a : ℕ) (ls : List Location) → map (λ k. lowest k 0 ls) (range_with_len a n) ≡ starting_places n a ls
+places_made zero a ls = refl
+places_made (suc n) a ls = ap (λ ps. lowest a 0 ls ∷ ps) (places_made n (a + 1) ls)
 
-pub values_all : (row : List ℤ) (i : ℕ) (vs ws : List Variable) → vs ≡ ws → i ≡ length vs → take i row ≡ starting_values (take i vs) → take (length ws) row ≡ starting_values ws
-values_all row i vs ws e h inv =
-    let n : length ws ≡ i = omega (arith, ap length e) in
-    ap (λ k. take k row) n ∙ inv ∙ ap starting_values (take_all i vs (omega arith) ∙ e)
+start_at : (vs : List Variable) (k : ℕ) → k < length vs → get_or (starting_values vs) k (pos 0) ≡ (get_or vs k no_variable).start
+start_at [] k l = absurd (omega arith)
+start_at (v ∷ vs) zero l = refl
+start_at (v ∷ vs) (suc k) l = start_at vs k (omega arith)
+
+starts : (vs : List Variable) → length (starting_values vs) ≡ length vs
+starts [] = refl
+starts (v ∷ vs) = ap suc (starts vs)
+
+pub values_made : (vs : List Variable) → map (λ k. (get_or vs k no_variable).start) (range_with_len 0 (length vs)) ≡ starting_values vs
+values_made vs = sym (fill_by_all (λ k. (get_or vs k no_variable).start) (starting_values vs) (length vs) (pos 0) (starts vs) (start_at vs))
 
 -- limits of the counts
 pub record Few (p : Plan) : Type 0 where

@@ -12,12 +12,7 @@ use sources::trigger::Trigger;
 pub fn take_due<S: Source>(source: &mut S, tick: u32) -> Option<Trigger>
     ensures { TakesDue tick (S.Source.list source.old) (S.Source.list source.new) result }
 {
-    let Some(trigger) = source.next() else {
-        return None;
-    };
-    if trigger.tick != tick {
-        return None;
-    }
+    let trigger = source.next().filter(|t| t.tick == tick)?;
     source.remove();
     Some(trigger)
 }
@@ -27,8 +22,7 @@ impl Engine {
     pub fn accepts(&self, trigger: u8) -> bool
         ensures { result ≡ is_new (model [] self.now.core).present trigger }
     {
-        let count = self.core.sequence.counts().triggers;
-        trigger < count && !is_present(&self.core.present[0..count as usize], trigger)
+        trigger < self.core.sequence.counts().triggers && !is_present(self.core.present(), trigger)
     }
 
     // A trigger comes: whether it becomes present. One that is unknown or already present does not.

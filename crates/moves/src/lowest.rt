@@ -9,54 +9,30 @@ use guards::at_tick::may_stay;
 use parts::item;
 use search::is_present;
 
-// The lowest of the first numbers that is present.
-fn first_present(present: &[bool], count: u8) -> Option<u8>
-    ensures { length present.now ≤ count → LowestPresent present.now result }
-{
-    for x in 0..count {
-        if is_present(present, x) {
-            return Some(x);
-        }
-    }
-    None
-}
-
 impl Engine {
     // The lowest present trigger, or none.
     pub fn lowest_present(&self) -> Option<u8>
         ensures { LowestPresent (model [] self.now.core).present result }
     {
-        let count = self.core.sequence.counts().triggers;
-        first_present(&self.core.present[0..count as usize], count)
+        let present = self.core.present();
+        (0..self.core.sequence.counts().triggers).find(|x| is_present(present, *x))
     }
 
     // Whether an automaton may be at its location at a tick.
     fn may_be_at(&self, automaton: u8, tick: u32) -> bool
         ensures { result ≡ may_stay (model [] self.now.core) tick automaton }
     {
-        let counts = self.core.sequence.counts();
-        let Some(place) = item(
-            &self.core.places[0..counts.automata as usize],
-            automaton as usize,
-        ) else {
+        let Some(place) = item(self.core.places(), automaton as usize) else {
             return true;
         };
-        may_stay(
-            self.core.sequence.location(place),
-            &self.core.zeroed[0..counts.clocks as usize],
-            tick,
-        )
+        may_stay(self.core.sequence.location(place), self.core.zeroed(), tick)
     }
 
     // The lowest automaton whose location's invariants fail at the next tick, or none.
     pub fn stuck(&self) -> Option<u8>
         ensures { LowestStuck (model [] self.now.core) result }
     {
-        for a in 0..self.core.sequence.counts().automata {
-            if !self.may_be_at(a, self.core.now + 1) {
-                return Some(a);
-            }
-        }
-        None
+        let tick = self.core.now + 1;
+        (0..self.core.sequence.counts().automata).find(|a| !self.may_be_at(*a, tick))
     }
 }

@@ -14,23 +14,16 @@ impl Engine {
     fn task_number(&self, location: u8) -> Option<u8>
         ensures { result ≡ task_in (slice_get (model [] self.now.core).plan.locations location) }
     {
-        match self.core.sequence.location(location) {
-            Some(l) => l.task,
-            None => None,
-        }
+        self.core.sequence.location(location).and_then(|l| l.task)
     }
 
     // How many jobs come with a location: one where it has a task.
     pub fn releases(&self, location: u8) -> usize
         ensures { result ≡ releases_at (model [] self.now.core).plan location }
     {
-        let Some(number) = self.task_number(location) else {
-            return 0;
-        };
-        match self.core.sequence.task(number) {
-            Some(_) => 1,
-            None => 0,
-        }
+        self.task_number(location)
+            .and_then(|number| self.core.sequence.task(number))
+            .map_or(0, |_| 1)
     }
 
     // The task of a location is released, where there is room.
@@ -51,9 +44,7 @@ impl Engine {
             task.priority,
             self.core.now,
         );
-        let mut queue = self.core.queue;
-        if let Ok(()) = queue.release(order, job) {
-            self.core.queue = queue;
+        if let Ok(()) = self.core.queue.release(order, job) {
             self.core.next += 1;
         }
     }

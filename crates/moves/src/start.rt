@@ -12,52 +12,39 @@ use parts::part::Variable;
 use ready_queue::queue::ReadyQueue;
 use runs::event::Phase;
 use sequence::whole::Sequence;
+use std::array;
 
 // The lowest location of an automaton.
-fn lowest_location(sequence: &Sequence, automaton: u8) -> u8
+fn lowest_location(sequence: &Sequence, automaton: usize) -> u8
     ensures { result ≡ lowest automaton 0 (plan sequence.now).locations }
 {
-    let locations = sequence.locations();
-    for i in 0..locations.len() {
-        if locations[i].automaton == automaton {
-            return i as u8;
-        }
-    }
-    0
+    sequence
+        .locations()
+        .iter()
+        .position(|l| l.automaton as usize == automaton)
+        .unwrap_or(0) as u8
 }
 
 fn first_places(sequence: &Sequence) -> [u8; 8]
     ensures long { length result ≡ 8 }
     ensures value { take (plan sequence.now).counts.automata result ≡ starting_places (plan sequence.now).counts.automata 0 (plan sequence.now).locations }
 {
-    let mut places = [0; 8];
-    for a in 0..sequence.counts().automata {
-        places[a as usize] = lowest_location(sequence, a);
-    }
-    places
+    array::from_fn(|a| lowest_location(sequence, a))
 }
 
 // What the variable at a place starts with.
 fn start_value(variables: &[Variable], place: usize) -> i16
     ensures { result ≡ (slice_index_or variables.now place no_variable).start }
 {
-    if place < variables.len() {
-        variables[place].start
-    } else {
-        0
-    }
+    variables.get(place).map_or(0, |v| v.start)
 }
 
 fn first_values(sequence: &Sequence) -> [i16; 16]
     ensures long { length result ≡ 16 }
     ensures value { take (length (plan sequence.now).variables) result ≡ starting_values (plan sequence.now).variables }
 {
-    let mut values = [0; 16];
     let variables = sequence.variables();
-    for i in 0..variables.len() {
-        values[i] = start_value(variables, i);
-    }
-    values
+    array::from_fn(|i| start_value(variables, i))
 }
 
 impl Engine {

@@ -18,19 +18,17 @@ impl Engine {
     pub fn zero(&mut self, resets: &[Option<Reset>])
         ensures { model [] self.new.core ≡ with_zeroed (reset_all self.old.core.now resets.now (model [] self.old.core).zeroed) (model [] self.old.core) }
     {
-        let mut row = self.core.zeroed;
-        reset_all(&mut row, resets, self.core.now);
-        self.core.zeroed = row;
+        reset_all(&mut self.core.zeroed, resets, self.core.now);
     }
 
     // The automaton of a location.
     fn automaton_of(&self, location: u8) -> u8
         ensures { result ≡ automaton (model [] self.now.core).plan location }
     {
-        match self.core.sequence.location(location) {
-            Some(l) => l.automaton,
-            None => 0,
-        }
+        self.core
+            .sequence
+            .location(location)
+            .map_or(0, |l| l.automaton)
     }
 
     // An edge leads its automaton to the new location.
@@ -38,9 +36,7 @@ impl Engine {
         ensures { model [] self.new.core ≡ with_places (slice_set (model [] self.old.core).places (automaton (model [] self.old.core).plan edge.now.from) edge.now.to) (model [] self.old.core) }
     {
         let automaton = self.automaton_of(edge.from);
-        let mut row = self.core.places;
-        move_to(&mut row, automaton, edge.to);
-        self.core.places = row;
+        move_to(&mut self.core.places, automaton, edge.to);
     }
 
     // A step is counted, and its trigger is taken.
@@ -48,9 +44,7 @@ impl Engine {
         requires { self.old.core.steps < 64 }
         ensures { model [] self.new.core ≡ stepped (take_trigger label (model [] self.old.core).present) (model [] self.old.core) }
     {
-        let mut row = self.core.present;
-        take_trigger(&mut row, label);
-        self.core.present = row;
+        take_trigger(&mut self.core.present, label);
         self.core.steps += 1;
     }
 
@@ -65,6 +59,7 @@ impl Engine {
         ensures { Assigns room (assign_both (model [] self.old.core).plan.variables first.now second.now (model [] self.old.core).values) (model [] self.old.core) (model [] self.new.core) result }
     {
         let count = self.core.sequence.variables().len();
+        // The row is copied out and back: it cannot be lent while the sequence beside it, a type with ghost fields, is.
         let mut row = self.core.values;
         let done = run_step(
             self.core.sequence.variables(),

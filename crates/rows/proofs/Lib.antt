@@ -1,3 +1,2 @@
-mod Sums
 mod Groups
 pub mod Sides

@@ -5,6 +5,8 @@ use Rattle.parts.specs.declared.part.Variable.{Variable}
 use Rattle.parts.specs.declared.part.Edge.{Edge}
 use Rattle.runs.specs.Values.{and_then, assign_all, assign_edges}
 use Rattle.runs.specs.Edges.{receives, sides}
+use Rattle.runs.specs.declared.event.Cause.{Cause}
+use Rattle.runs.specs.declared.event.Cause.TheVariants.{EdgeRange, Overload}
 use Rattle.rows.specs.declared.fault.OutOfRange.{OutOfRange}
 use Rattle.rows.specs.declared.fault.StepFault.{StepFault}
 use Rattle.rows.specs.declared.fault.StepFault.TheVariants.{Range, Room}
@@ -25,10 +27,15 @@ StepRun room after before row (Ok _) = (room ≡ true) × (after ≡ Some row)
 StepRun room after before row (Err Range) = (row ≡ before) × (length before ≤ 16 → after ≡ None)
 StepRun room after before row (Err Room) = (row ≡ before) × (room ≡ false) × (is_some after ≡ true)
 
+-- the cause of a refused step
+abbrev pub step_cause : StepFault → Cause
+step_cause Range = EdgeRange
+step_cause Room = Overload
+
 -- a finished task: the row holds the values after all, or it is as before and there are none
-abbrev pub TaskRun : (after : Option (List ℤ)) (before row : List ℤ) → Bool → Type 0
-TaskRun after before row true = after ≡ Some row
-TaskRun after before row false = (row ≡ before) × (length before ≤ 16 → after ≡ None)
+abbrev pub TaskRun : (after : Option (List ℤ)) (before row : List ℤ) → Result Unit OutOfRange → Type 0
+TaskRun after before row (Ok _) = after ≡ Some row
+TaskRun after before row (Err _) = (row ≡ before) × (length before ≤ 16 → after ≡ None)
 
 -- the edges of a step assign as one side, or as two with the sender's first
 pub record AssignedInOrder (vars : List Variable) (d : Edge) (values : List ℤ) : Type 0 where

@@ -1,5 +1,5 @@
 // Assignments on the row of variables.
-ghost use Rattle.std.specs.Prelude.{◌≡◌, ◌&&◌, ◌+ℤ◌, if◌then◌else◌, Some, None, int_le, slice_index_or};
+ghost use Rattle.std.specs.Prelude.{◌≡◌, ◌+ℤ◌, if◌then◌else◌, Some, None, slice_index_or};
 ghost use Rattle.runs.specs.Values.{base, no_variable, in_range, assigned_value, assign as assigned, assign_all};
 ghost use Rattle.rows.specs.Rows.{GroupRun};
 
@@ -10,45 +10,26 @@ use parts::part::{Assignment, Variable};
 pub fn value_of(values: &[i16], variable: Option<u8>) -> i16
     ensures { result ≡ base values.now variable }
 {
-    match variable {
-        None => 0,
-        Some(v) => {
-            let place = v as usize;
-            if place < values.len() {
-                values[place]
-            } else {
-                0
-            }
-        }
-    }
+    variable.map_or(0, |v| values.get(v as usize).copied().unwrap_or(0))
 }
 
 // A variable with its range; behind the last one, a variable that is always 0.
 fn variable_at(variables: &[Variable], number: u8) -> Variable
     ensures { result ≡ slice_index_or variables.now number no_variable }
 {
-    let place = number as usize;
-    if place < variables.len() {
-        variables[place]
-    } else {
-        Variable {
-            low: 0,
-            high: 0,
-            start: 0,
-        }
-    }
+    let none = Variable {
+        low: 0,
+        high: 0,
+        start: 0,
+    };
+    variables.get(number as usize).copied().unwrap_or(none)
 }
 
-// A value plus a constant, where the sum lies from low to high.
-fn sum_in_range(low: i16, high: i16, value: i16, constant: i16) -> Option<i16>
-    ensures { result ≡ (if int_le low (value +ℤ constant) && int_le (value +ℤ constant) high then Some (value +ℤ constant) else None) }
+// Whether a value lies in a variable's range.
+fn is_in_range(variable: Variable, value: i16) -> bool
+    ensures { result ≡ in_range variable value }
 {
-    let sum = value as i32 + constant as i32;
-    if (low as i32) <= sum && sum <= high as i32 {
-        Some(sum as i16)
-    } else {
-        None
-    }
+    variable.low <= value && value <= variable.high
 }
 
 // What an assignment gives its variable, where that lies in the variable's range.
@@ -56,12 +37,8 @@ pub fn new_value(variables: &[Variable], values: &[i16], assignment: Assignment)
     ensures { result ≡ (if in_range (slice_index_or variables.now assignment.target no_variable) (assigned_value values.now assignment) then Some (assigned_value values.now assignment) else None) }
 {
     let variable = variable_at(variables, assignment.target);
-    sum_in_range(
-        variable.low,
-        variable.high,
-        value_of(values, assignment.source),
-        assignment.constant,
-    )
+    let sum = value_of(values, assignment.source).checked_add(assignment.constant)?;
+    is_in_range(variable, sum).then_some(sum)
 }
 
 // Runs one assignment; none changes nothing.
@@ -79,9 +56,7 @@ pub fn assign_one(
     if target >= values.len() {
         return Err(OutOfRange);
     }
-    let Some(value) = new_value(variables, values, a) else {
-        return Err(OutOfRange);
-    };
+    let value = new_value(variables, values, a).ok_or(OutOfRange)?;
     values[target] = value;
     Ok(())
 }

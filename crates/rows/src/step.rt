@@ -1,5 +1,5 @@
 // The assignments of a whole step or a finished task: all of them run, or the row stays as it was.
-ghost use Rattle.std.specs.Prelude.{◌≡◌, ◌<◌, ◌≤◌, length, take, if◌then◌else◌, MatchOption};
+ghost use Rattle.std.specs.Prelude.{◌≡◌, ◌<◌, ◌≤◌, length, take, MatchOption};
 ghost use Rattle.runs.specs.Values.{assign_all};
 ghost use Rattle.rows.specs.declared.fault.StepFault.TheVariants.{Range};
 ghost use Rattle.rows.specs.Rows.{assign_both, StepRun, TaskRun, SidesInOrder};
@@ -22,18 +22,18 @@ impl From<OutOfRange> for StepFault {
 // The row of variables, put back when the guard ends unless the whole step was accepted.
 struct RowGuard<'a> {
     row: &'a mut [i16],
-    old: [i16; MOST_VALUES],
-    keep: bool,
+    // what is put back; none once the whole step was accepted
+    old: Option<[i16; MOST_VALUES]>,
 }
 
 impl Drop for RowGuard<'_> {
     // The bound is asked of whoever makes a guard, which only `run_step` does: `saved` refuses a longer row.
     fn drop(self)
         requires { length self.row.now ≤ 16 }
-        ensures { self.exit.0.now ≡ (if self.entry.keep then self.entry.row.now else take (length self.entry.row.now) self.entry.old) }
+        ensures { MatchOption self.entry.old (self.exit.0.now ≡ self.entry.row.now) (λ old. self.exit.0.now ≡ take (length self.entry.row.now) old) }
     {
-        let RowGuard { row, old, keep } = self;
-        if !keep {
+        let RowGuard { row, old } = self;
+        if let Some(old) = old {
             let n = row.len();
             row[..n].copy_from_slice(&old[..n]);
         }
@@ -65,20 +65,17 @@ pub fn run_step(
 ) -> Result<(), StepFault>
     ensures { StepRun room (assign_both variables.now first.now second.now values.old) values.old values.new result }
 {
-    let Some(old) = saved(values) else {
-        return Err(StepFault::Range);
-    };
+    let old = saved(values).ok_or(StepFault::Range)?;
     let mut guard = RowGuard {
         row: values,
-        old,
-        keep: false,
+        old: Some(old),
     };
     assign_all(variables, first, guard.row)?;
     assign_all(variables, second, guard.row)?;
     if !room {
         return Err(StepFault::Room);
     }
-    guard.keep = true;
+    guard.old = None;
     Ok(())
 }
 
@@ -87,10 +84,10 @@ pub fn finish_assignments(
     variables: &[Variable],
     values: &mut [i16],
     assignments: &[Option<Assignment>],
-) -> bool
+) -> Result<(), OutOfRange>
     ensures { TaskRun (assign_all variables.now assignments.now values.old) values.old values.new result }
 {
-    run_step(variables, values, assignments, &[], true).is_ok()
+    run_step(variables, values, assignments, &[], true).map_err(|_| OutOfRange)
 }
 
 // The assignments of a step's edges are those of one side, or of two, the sender's first.

@@ -3,23 +3,14 @@ ghost use Rattle.std.specs.Prelude.{◌≡◌, slice_set};
 ghost use Rattle.runs.specs.Edges.{reset_one, reset_all, take_trigger};
 
 use parts::part::{Label, Reset};
-
-// Writes at a place; behind the end nothing changes.
-fn put<T: Copy>(row: &mut [T], place: usize, x: T)
-    ensures { row.new ≡ slice_set row.old place x }
-{
-    if place < row.len() {
-        row[place] = x;
-    }
-}
+use parts::set_item;
 
 // Zeroes one clock at a tick; none changes nothing.
 fn reset_one(zeroed: &mut [u32], reset: Option<Reset>, tick: u32)
     ensures { zeroed.new ≡ reset_one tick reset zeroed.old }
 {
-    match reset {
-        None => {}
-        Some(r) => put(zeroed, r.clock as usize, tick),
+    if let Some(r) = reset {
+        set_item(zeroed, r.clock as usize, tick);
     }
 }
 
@@ -36,7 +27,7 @@ pub fn reset_all(zeroed: &mut [u32], resets: &[Option<Reset>], tick: u32)
 pub fn move_to(places: &mut [u8], automaton: u8, to: u8)
     ensures { places.new ≡ slice_set places.old automaton to }
 {
-    put(places, automaton as usize, to);
+    set_item(places, automaton as usize, to);
 }
 
 // Takes the trigger that an edge waits for.
@@ -44,7 +35,7 @@ pub fn take_trigger(present: &mut [bool], label: Label)
     ensures { present.new ≡ take_trigger label present.old }
 {
     match label {
-        Label::Trigger(x) => put(present, x as usize, false),
+        Label::Trigger(x) => set_item(present, x as usize, false),
         Label::Internal | Label::Send(_) | Label::Receive(_) => {}
     }
 }

@@ -1,13 +1,12 @@
-use Rattle.std.proofs.Common.{ap, ◌∙◌}
+use Rattle.std.proofs.Common.{eqb, ap, ◌∙◌, rules, tests}
+use Rattle.std.proofs.lemmas.Iterator.{YieldsList-from_slice}
+use Rattle.std.proofs.lemmas.Iterator.Search.{position_from_yields_List}
 use Rattle.runs.specs.State.{lowest}
-use Rattle.moves.proofs.Starting.{lowest_here, lowest_later, lowest_none}
+use Rattle.moves.proofs.Starting.{lowest_is}
 use Rattle.moves.proofs.start.lowest_location.Goals as goal
 
-pub returns-then-locations-i : goal.returns-then-locations-i
-returns-then-locations-i c = lowest_here c.args.automaton c.locations-locations.result.now c.loop-i.i _ c.loop-i-test.true c.loop-i.invariant c.if-locations-i.true ∙ ap (lowest c.args.automaton 0) c.locations-locations.ensures
-
-pub loop-i-preserved : goal.loop-i-preserved
-loop-i-preserved c = lowest_later c.args.automaton c.locations-locations.result.now c.loop-i.i _ c.loop-i-test.true c.loop-i.invariant c.if-locations-i.false
-
 pub returns : goal.returns
-returns c = lowest_none c.args.automaton c.locations-locations.result.now c.loop-i.i c.loop-i-test.false c.loop-i.invariant ∙ ap (lowest c.args.automaton 0) c.locations-locations.ensures
+returns c =
+    let ls = c.locations.result.now in
+    let r = position_from_yields_List (λ l. eqb l.automaton c.args.automaton) _ _ c.position.result c.position.ensures.ran (YieldsList-from_slice ls cc) (λ x b q k. search (rules, tests)) in
+    c.unwrap_or.ensures ∙ (lowest_is c.args.automaton ls c.position.result r ∙ ap (lowest c.args.automaton 0) c.locations.ensures)

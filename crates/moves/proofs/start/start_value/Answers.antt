@@ -1,6 +1,0 @@
-use Rattle.std.proofs.Common.{rules}
-use Rattle.std.proofs.lemmas.List.{get_or_past}
-use Rattle.moves.proofs.start.start_value.Goals as goal
-
-pub returns-else-place-variables : goal.returns-else-place-variables
-returns-else-place-variables c = search (rules, get_or_past)
