@@ -5,7 +5,7 @@ use sources::table::Table;
 use sources::tray::Tray;
 use sources::trigger::{PutFault, TableFault, Trigger};
 use sources::{Pair, Source};
-use std::alloc::AllocFailed;
+use std::error::Error;
 use std::{fmt, io};
 
 // Why a line of the input cannot be used.
@@ -78,14 +78,8 @@ enum InputError {
     Other(anyhow::Error),
 }
 
-impl From<io::Error> for InputError {
-    fn from(e: io::Error) -> InputError {
-        InputError::Other(e.into())
-    }
-}
-
-impl From<AllocFailed<Trigger>> for InputError {
-    fn from(e: AllocFailed<Trigger>) -> InputError {
+impl<E: Error> From<E> for InputError {
+    fn from(e: E) -> InputError {
         InputError::Other(e.into())
     }
 }
