@@ -10,6 +10,8 @@ use jobs::Order;
 use jobs::job::{Job, OrderName, Policy};
 use ready_queue::queue::{QueueFull, ReadyQueue};
 use row::{Fault, Row};
+use std::error::Error;
+use std::ops::ControlFlow;
 use std::{fmt, io};
 
 const LAST_TICK: u32 = 1_000_000_000;
@@ -52,9 +54,9 @@ fn checked_row(
     if deadline < cost || deadline > LONGEST {
         return Err(Fault::Deadline);
     }
-    if priority > 255 {
+    let Ok(priority) = u8::try_from(priority) else {
         return Err(Fault::Priority);
-    }
+    };
     if release < last {
         return Err(Fault::Falls);
     }
@@ -62,15 +64,12 @@ fn checked_row(
         release,
         cost,
         deadline,
-        priority: priority as u8,
+        priority,
     })
 }
 
 fn number(text: &str) -> Result<u32, Fault> {
-    match text.parse::<u32>() {
-        Ok(n) => Ok(n),
-        Err(_) => Err(Fault::Number),
-    }
+    text.parse::<u32>().map_err(|_| Fault::Number)
 }
 
 fn read_row(last: u32, line: &str) -> Result<Row, Fault> {
@@ -95,10 +94,11 @@ fn read_row(last: u32, line: &str) -> Result<Row, Fault> {
     }
 }
 
-// How a run stands: the tick, how many rows were released and done, and the job that works since a tick.
+// How a run stands: the tick, the rows to come, how many were released and done, and the job that works since a tick.
 #[derive(Clone, Copy)]
-struct Progress {
+struct Progress<'a> {
     now: u32,
+    to_come: &'a [Row],
     released: usize,
     done: u32,
     working: Option<(u32, u32)>,
@@ -129,21 +129,19 @@ fn finish(rt: &HostRuntime, queue: &mut ReadyQueue, p: &mut Progress) -> io::Res
     Ok(())
 }
 
-// Releases the rows of this tick; false where a job finds no place.
+// Releases the rows of this tick; a job that finds no place ends the run.
 fn release<O: Order>(
     rt: &HostRuntime,
     order: &O,
-    rows: &[Row],
     queue: &mut ReadyQueue,
     p: &mut Progress,
-) -> io::Result<bool> {
-    for i in p.released..rows.len() {
-        let row = rows[i];
+) -> io::Result<ControlFlow<()>> {
+    while let [row, later @ ..] = p.to_come {
         if row.release != p.now {
             break;
         }
-        let Ok(number) = u32::try_from(i) else {
-            return Ok(false);
+        let Ok(number) = u32::try_from(p.released) else {
+            return Ok(ControlFlow::Break(()));
         };
         let job = Job::released(number, 0, row.cost, row.deadline, row.priority, row.release);
         if let Err(QueueFull(job)) = queue.release(order, job) {
@@ -151,66 +149,52 @@ fn release<O: Order>(
             let tick = p.now;
             let number = job.number;
             println!(rt; "tick {tick}: job {number} finds 32 jobs waiting")?;
-            return Ok(false);
+            return Ok(ControlFlow::Break(()));
         }
-        p.released = i + 1;
+        p.to_come = later;
+        p.released = p.released.saturating_add(1);
     }
-    Ok(true)
+    Ok(ControlFlow::Continue(()))
 }
 
-// One tick of the processor, or a leap to the next release where nobody waits; false where nothing is left to do.
-fn pass(
-    rt: &HostRuntime,
-    rows: &[Row],
-    queue: &mut ReadyQueue,
-    p: &mut Progress,
-) -> io::Result<bool> {
+// One tick of the processor, or a leap to the next release where nobody waits, if anything is left to do.
+fn pass(rt: &HostRuntime, queue: &mut ReadyQueue, p: &mut Progress) -> io::Result<ControlFlow<()>> {
     if p.now >= LAST_TICK {
-        return Ok(false);
+        return Ok(ControlFlow::Break(()));
     }
-    match queue.serve() {
-        Some(job) => {
-            let same = match p.working {
-                Some((_, number)) => number == job.number,
-                None => false,
-            };
-            if !same {
+    match (queue.serve(), p.to_come.first()) {
+        (Some(job), _) => {
+            if !p.working.is_some_and(|(_, number)| number == job.number) {
                 close_stretch(rt, p)?;
                 p.working = Some((p.now, job.number));
             }
             p.now = p.now.saturating_add(1);
-            Ok(true)
         }
-        None => match rows.get(p.released) {
-            Some(row) => {
-                p.now = row.release;
-                Ok(true)
-            }
-            None => Ok(false),
-        },
+        (None, Some(row)) => p.now = row.release,
+        (None, None) => return Ok(ControlFlow::Break(())),
     }
+    Ok(ControlFlow::Continue(()))
 }
 
-// One tick: late, finish, release, work. False where the run is over.
+// One tick: late, finish, release, work. It breaks where the run is over.
 fn serve_tick<O: Order>(
     rt: &HostRuntime,
     order: &O,
-    rows: &[Row],
     queue: &mut ReadyQueue,
     p: &mut Progress,
-) -> io::Result<bool> {
+) -> io::Result<ControlFlow<()>> {
     if let Some(job) = queue.first_late(p.now) {
         close_stretch(rt, p)?;
         let tick = p.now;
         let number = job.number;
         println!(rt; "tick {tick}: job {number} late")?;
-        return Ok(false);
+        return Ok(ControlFlow::Break(()));
     }
     finish(rt, queue, p)?;
-    if !release(rt, order, rows, queue, p)? {
-        return Ok(false);
+    if release(rt, order, queue, p)?.is_break() {
+        return Ok(ControlFlow::Break(()));
     }
-    pass(rt, rows, queue, p)
+    pass(rt, queue, p)
 }
 
 // Serves the whole table.
@@ -218,12 +202,13 @@ fn serve<O: Order>(rt: &HostRuntime, order: &O, rows: &[Row]) -> io::Result<()> 
     let mut queue = ReadyQueue::new();
     let mut p = Progress {
         now: 0,
+        to_come: rows,
         released: 0,
         done: 0,
         working: None,
     };
     for _ in 0..=2 * LAST_TICK {
-        if !serve_tick(rt, order, rows, &mut queue, &mut p)? {
+        if serve_tick(rt, order, &mut queue, &mut p)?.is_break() {
             break;
         }
     }
@@ -241,78 +226,54 @@ struct Plan {
     rows: Vec<Row>,
 }
 
-// The whole input: a plan, or the first line that cannot be used.
+// Why the input gives no plan: the first line that cannot be used, or a failed read, or a want of memory.
 #[derive(Drop)]
-enum Input {
-    Plan(Plan),
+enum InputError {
     Bad(usize, Fault),
+    Other(anyhow::Error),
 }
 
-fn read_input(rt: &HostRuntime) -> anyhow::Result<Input> {
-    let mut plan = Plan {
-        policy: Policy {
-            name: OrderName::Fc,
-            hold: false,
-        },
-        rows: Vec::new(rt.alloc()),
+impl<E: Error> From<E> for InputError {
+    fn from(e: E) -> InputError {
+        InputError::Other(e.into())
+    }
+}
+
+fn read_order(line: &str) -> Result<OrderName, Fault> {
+    let word = line.strip_prefix("order=").ok_or(Fault::Order)?;
+    OrderName::from_word(word.as_bytes()).ok_or(Fault::Order)
+}
+
+fn read_hold(line: &str) -> Result<bool, Fault> {
+    match line {
+        "hold=yes" => Ok(true),
+        "hold=no" => Ok(false),
+        _ => Err(Fault::Hold),
+    }
+}
+
+fn read_plan(rt: &HostRuntime) -> Result<Plan, InputError> {
+    let mut lines = rt.lines(rt.alloc());
+    let Some(line) = lines.next() else {
+        return Err(InputError::Bad(1, Fault::Order));
     };
+    let name = read_order(line?.as_str()).map_err(|f| InputError::Bad(1, f))?;
+    let Some(line) = lines.next() else {
+        return Err(InputError::Bad(2, Fault::Hold));
+    };
+    let hold = read_hold(line?.as_str()).map_err(|f| InputError::Bad(2, f))?;
+    let mut rows = Vec::new(rt.alloc());
     let mut last = 0;
-    let mut count = 0usize;
-    for line in rt.lines(rt.alloc()) {
+    let mut count = 2usize;
+    for line in lines {
         let line = line?;
         count = count.saturating_add(1);
-        match read_line(&mut plan, count, last, line.as_str())? {
-            Ok(release) => last = release,
-            Err(fault) => return Ok(Input::Bad(count, fault)),
-        }
+        let row = read_row(last, line.as_str()).map_err(|f| InputError::Bad(count, f))?;
+        last = row.release;
+        rows.push(row)?;
     }
-    if count < 2 {
-        let fault = if count == 0 {
-            Fault::Order
-        } else {
-            Fault::Hold
-        };
-        return Ok(Input::Bad(count.saturating_add(1), fault));
-    }
-    Ok(Input::Plan(plan))
-}
-
-// Takes one line into the plan, and answers the last release tick.
-fn read_line(
-    plan: &mut Plan,
-    count: usize,
-    last: u32,
-    line: &str,
-) -> anyhow::Result<Result<u32, Fault>> {
-    if count == 1 {
-        return Ok(match line.strip_prefix("order=") {
-            Some(word) => match OrderName::from_word(word.as_bytes()) {
-                Some(name) => {
-                    plan.policy.name = name;
-                    Ok(last)
-                }
-                None => Err(Fault::Order),
-            },
-            None => Err(Fault::Order),
-        });
-    }
-    if count == 2 {
-        return Ok(match line {
-            "hold=yes" => {
-                plan.policy.hold = true;
-                Ok(last)
-            }
-            "hold=no" => Ok(last),
-            _ => Err(Fault::Hold),
-        });
-    }
-    match read_row(last, line) {
-        Ok(row) => {
-            plan.rows.push(row)?;
-            Ok(Ok(row.release))
-        }
-        Err(fault) => Ok(Err(fault)),
-    }
+    let policy = Policy { name, hold };
+    Ok(Plan { policy, rows })
 }
 
 fn run_plan(rt: &HostRuntime, plan: &Plan) -> io::Result<()> {
@@ -324,9 +285,10 @@ fn run_plan(rt: &HostRuntime, plan: &Plan) -> io::Result<()> {
 }
 
 fn main(rt: HostRuntime) -> anyhow::Result<()> {
-    match read_input(&rt)? {
-        Input::Plan(plan) => run_plan(&rt, &plan)?,
-        Input::Bad(line, fault) => println!(rt; "refused: line {line}: {fault}")?,
+    match read_plan(&rt) {
+        Ok(plan) => run_plan(&rt, &plan)?,
+        Err(InputError::Bad(line, fault)) => println!(rt; "refused: line {line}: {fault}")?,
+        Err(InputError::Other(e)) => return Err(e),
     }
     Ok(())
 }
