@@ -94,9 +94,10 @@ fn read_row(last: u32, line: &str) -> Result<Row, Fault> {
     }
 }
 
-// How a run stands: the tick, the rows to come, how many were released and done, and the job that works since a tick.
+// A run: the jobs that wait, the tick, the rows to come, how many were released and done, and the job that works since a tick.
 #[derive(Clone, Copy)]
-struct Progress<'a> {
+struct Run<'a> {
+    queue: ReadyQueue,
     now: u32,
     to_come: &'a [Row],
     released: usize,
@@ -104,118 +105,113 @@ struct Progress<'a> {
     working: Option<(u32, u32)>,
 }
 
-// Prints the stretch of ticks in which one job worked, if there is one.
-fn close_stretch(rt: &HostRuntime, p: &mut Progress) -> io::Result<()> {
-    if let Some((from, job)) = p.working {
-        let to = p.now;
-        println!(rt; "ticks {from} to {to}: job {job} works")?;
-        p.working = None;
-    }
-    Ok(())
-}
-
-// A first job with nothing remaining is done and leaves.
-fn finish(rt: &HostRuntime, queue: &mut ReadyQueue, p: &mut Progress) -> io::Result<()> {
-    if let Some(job) = queue.first() {
-        if job.remaining == 0 {
-            let _ = queue.remove_first();
-            close_stretch(rt, p)?;
-            let tick = p.now;
-            let number = job.number;
-            println!(rt; "tick {tick}: job {number} done")?;
-            p.done = p.done.saturating_add(1);
+impl<'a> Run<'a> {
+    fn new(rows: &'a [Row]) -> Self {
+        Run {
+            queue: ReadyQueue::new(),
+            now: 0,
+            to_come: rows,
+            released: 0,
+            done: 0,
+            working: None,
         }
     }
-    Ok(())
-}
 
-// Releases the rows of this tick; a job that finds no place ends the run.
-fn release<O: Order>(
-    rt: &HostRuntime,
-    order: &O,
-    queue: &mut ReadyQueue,
-    p: &mut Progress,
-) -> io::Result<ControlFlow<()>> {
-    while let [row, later @ ..] = p.to_come {
-        if row.release != p.now {
-            break;
+    // Prints the stretch of ticks in which one job worked, if there is one.
+    fn close_stretch(&mut self, rt: &HostRuntime) -> io::Result<()> {
+        if let Some((from, job)) = self.working {
+            let to = self.now;
+            println!(rt; "ticks {from} to {to}: job {job} works")?;
+            self.working = None;
         }
-        let Ok(number) = u32::try_from(p.released) else {
-            return Ok(ControlFlow::Break(()));
-        };
-        let job = Job::released(number, 0, row.cost, row.deadline, row.priority, row.release);
-        if let Err(QueueFull(job)) = queue.release(order, job) {
-            close_stretch(rt, p)?;
-            let tick = p.now;
-            let number = job.number;
-            println!(rt; "tick {tick}: job {number} finds 32 jobs waiting")?;
-            return Ok(ControlFlow::Break(()));
-        }
-        p.to_come = later;
-        p.released = p.released.saturating_add(1);
+        Ok(())
     }
-    Ok(ControlFlow::Continue(()))
-}
 
-// One tick of the processor, or a leap to the next release where nobody waits, if anything is left to do.
-fn pass(rt: &HostRuntime, queue: &mut ReadyQueue, p: &mut Progress) -> io::Result<ControlFlow<()>> {
-    if p.now >= LAST_TICK {
-        return Ok(ControlFlow::Break(()));
-    }
-    match (queue.serve(), p.to_come.first()) {
-        (Some(job), _) => {
-            if !p.working.is_some_and(|(_, number)| number == job.number) {
-                close_stretch(rt, p)?;
-                p.working = Some((p.now, job.number));
-            }
-            p.now = p.now.saturating_add(1);
-        }
-        (None, Some(row)) => p.now = row.release,
-        (None, None) => return Ok(ControlFlow::Break(())),
-    }
-    Ok(ControlFlow::Continue(()))
-}
-
-// One tick: late, finish, release, work. It breaks where the run is over.
-fn serve_tick<O: Order>(
-    rt: &HostRuntime,
-    order: &O,
-    queue: &mut ReadyQueue,
-    p: &mut Progress,
-) -> io::Result<ControlFlow<()>> {
-    if let Some(job) = queue.first_late(p.now) {
-        close_stretch(rt, p)?;
-        let tick = p.now;
+    // Prints what happens to a job in this tick, behind the stretch that it ends.
+    fn report(&mut self, rt: &HostRuntime, job: &Job, what: &str) -> io::Result<()> {
+        self.close_stretch(rt)?;
+        let tick = self.now;
         let number = job.number;
-        println!(rt; "tick {tick}: job {number} late")?;
-        return Ok(ControlFlow::Break(()));
+        println!(rt; "tick {tick}: job {number} {what}")
     }
-    finish(rt, queue, p)?;
-    if release(rt, order, queue, p)?.is_break() {
-        return Ok(ControlFlow::Break(()));
+
+    // A first job with nothing remaining is done and leaves.
+    fn finish(&mut self, rt: &HostRuntime) -> io::Result<()> {
+        if let Some(job) = self.queue.first() {
+            if job.remaining == 0 {
+                let _ = self.queue.remove_first();
+                self.report(rt, &job, "done")?;
+                self.done = self.done.saturating_add(1);
+            }
+        }
+        Ok(())
     }
-    pass(rt, queue, p)
+
+    // Releases the rows of this tick; a job that finds no place ends the run.
+    fn release<O: Order>(&mut self, rt: &HostRuntime, order: &O) -> io::Result<ControlFlow<()>> {
+        while let [row, later @ ..] = self.to_come {
+            if row.release != self.now {
+                break;
+            }
+            let Ok(number) = u32::try_from(self.released) else {
+                return Ok(ControlFlow::Break(()));
+            };
+            let job = Job::released(number, 0, row.cost, row.deadline, row.priority, row.release);
+            if let Err(QueueFull(job)) = self.queue.release(order, job) {
+                self.report(rt, &job, "finds 32 jobs waiting")?;
+                return Ok(ControlFlow::Break(()));
+            }
+            self.to_come = later;
+            self.released = self.released.saturating_add(1);
+        }
+        Ok(ControlFlow::Continue(()))
+    }
+
+    // One tick of the processor, or a leap to the next release where nobody waits, if anything is left to do.
+    fn pass(&mut self, rt: &HostRuntime) -> io::Result<ControlFlow<()>> {
+        if self.now >= LAST_TICK {
+            return Ok(ControlFlow::Break(()));
+        }
+        match (self.queue.serve(), self.to_come.first()) {
+            (Some(job), _) => {
+                if !self.working.is_some_and(|(_, number)| number == job.number) {
+                    self.close_stretch(rt)?;
+                    self.working = Some((self.now, job.number));
+                }
+                self.now = self.now.saturating_add(1);
+            }
+            (None, Some(row)) => self.now = row.release,
+            (None, None) => return Ok(ControlFlow::Break(())),
+        }
+        Ok(ControlFlow::Continue(()))
+    }
+
+    // One tick: late, finish, release, work. It breaks where the run is over.
+    fn tick<O: Order>(&mut self, rt: &HostRuntime, order: &O) -> io::Result<ControlFlow<()>> {
+        if let Some(job) = self.queue.first_late(self.now) {
+            self.report(rt, &job, "late")?;
+            return Ok(ControlFlow::Break(()));
+        }
+        self.finish(rt)?;
+        if self.release(rt, order)?.is_break() {
+            return Ok(ControlFlow::Break(()));
+        }
+        self.pass(rt)
+    }
 }
 
 // Serves the whole table.
 fn serve<O: Order>(rt: &HostRuntime, order: &O, rows: &[Row]) -> io::Result<()> {
-    let mut queue = ReadyQueue::new();
-    let mut p = Progress {
-        now: 0,
-        to_come: rows,
-        released: 0,
-        done: 0,
-        working: None,
-    };
+    let mut run = Run::new(rows);
     for _ in 0..=2 * LAST_TICK {
-        if serve_tick(rt, order, &mut queue, &mut p)?.is_break() {
+        if run.tick(rt, order)?.is_break() {
             break;
         }
     }
-    close_stretch(rt, &mut p)?;
-    let waiting = queue.len();
-    let tick = p.now;
-    let done = p.done;
+    run.close_stretch(rt)?;
+    let tick = run.now;
+    let done = run.done;
+    let waiting = run.queue.len();
     println!(rt; "tick {tick}: end, {done} done, {waiting} waiting")
 }
 
