@@ -90,9 +90,12 @@ fn add_parts(draft: &mut Draft) -> Result<(), Rule> {
 }
 
 fn print_assignment(rt: &HostRuntime, assignment: Assignment) -> io::Result<()> {
-    let target = assignment.target;
-    let constant = assignment.constant;
-    match assignment.source {
+    let Assignment {
+        target,
+        source,
+        constant,
+    } = assignment;
+    match source {
         None => println!(rt; "  sets variable {target} to {constant}"),
         Some(source) => println!(rt; "  sets variable {target} to variable {source} + {constant}"),
     }
@@ -120,11 +123,14 @@ fn print_assignments(rt: &HostRuntime, assignments: &[Option<Assignment>; 4]) ->
 }
 
 fn print_task(rt: &HostRuntime, number: usize, task: &Task) -> io::Result<()> {
-    let cost = task.cost;
-    let deadline = task.deadline;
-    let priority = task.priority;
+    let Task {
+        cost,
+        deadline,
+        priority,
+        assignments,
+    } = task;
     println!(rt; "task {number}: C {cost}, D {deadline}, P {priority}")?;
-    print_assignments(rt, &task.assignments)
+    print_assignments(rt, assignments)
 }
 
 fn print_location(rt: &HostRuntime, number: usize, location: &Location) -> io::Result<()> {
@@ -134,9 +140,12 @@ fn print_location(rt: &HostRuntime, number: usize, location: &Location) -> io::R
         println!(rt; "  releases task {task}")?;
     }
     for invariant in location.invariants.iter().flatten() {
-        let clock = invariant.clock;
-        let sign = if invariant.strict { "<" } else { "<=" };
-        let bound = invariant.bound;
+        let Invariant {
+            clock,
+            strict,
+            bound,
+        } = *invariant;
+        let sign = if strict { "<" } else { "<=" };
         println!(rt; "  while clock {clock} {sign} {bound}")?;
     }
     Ok(())
@@ -155,24 +164,22 @@ fn print_edge(rt: &HostRuntime, number: usize, edge: &Edge) -> io::Result<()> {
     for condition in edge.guard.iter().flatten() {
         print_condition(rt, *condition)?;
     }
-    for reset in edge.resets.iter().flatten() {
-        let clock = reset.clock;
+    for Reset { clock } in edge.resets.iter().flatten() {
         println!(rt; "  zeroes clock {clock}")?;
     }
     print_assignments(rt, &edge.assignments)
 }
 
 fn print_sequence(rt: &HostRuntime, sequence: &Sequence) -> io::Result<()> {
-    let counts = sequence.counts();
-    let automata = counts.automata;
-    let clocks = counts.clocks;
-    let triggers = counts.triggers;
-    let channels = counts.channels;
+    let Counts {
+        automata,
+        clocks,
+        triggers,
+        channels,
+    } = sequence.counts();
     println!(rt; "automata {automata}, clocks {clocks}, triggers {triggers}, channels {channels}")?;
     for (number, variable) in sequence.variables().iter().enumerate() {
-        let low = variable.low;
-        let high = variable.high;
-        let start = variable.start;
+        let Variable { low, high, start } = variable;
         println!(rt; "variable {number}: from {low} to {high}, starts at {start}")?;
     }
     for (number, task) in sequence.tasks().iter().enumerate() {
