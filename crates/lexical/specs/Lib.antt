@@ -4,3 +4,4 @@ pub mod Numbers
 pub mod Keys
 pub mod Fields
 pub mod Tokens
+pub mod Shown

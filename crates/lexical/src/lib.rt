@@ -6,6 +6,7 @@ ghost use Rattle.lexical.specs.declared.fault.LineFault.TheVariants.{Number};
 ghost use Rattle.lexical.specs.declared.fault.SequenceFault.TheVariants.{Line};
 
 pub mod bytes;
+mod display;
 pub mod fault;
 pub mod key;
 pub mod report;

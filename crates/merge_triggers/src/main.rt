@@ -5,6 +5,7 @@ use sources::table::Table;
 use sources::tray::Tray;
 use sources::trigger::{PutFault, TableFault, Trigger};
 use sources::{Pair, Source};
+use std::error::Error;
 use std::{fmt, io};
 
 // Why a line of the input cannot be used.
@@ -19,21 +20,33 @@ enum Fault {
 
 impl fmt::Display for Fault {
     fn fmt<W: fmt::Write>(&self, f: &mut fmt::Formatter<W>) -> fmt::Result {
-        let text = match *self {
-            Fault::Key => "expected trig=tick,number or put=tick,number",
-            Fault::Fields => "expected two fields: tick,number",
-            Fault::Tick => "the tick is not a number",
-            Fault::Number => "the number is not one from 0 to 255",
-            Fault::Put(fault) => {
-                let number = fault.number();
-                let text = match fault {
-                    PutFault::TickOver => "the tick is over 1000000000",
-                    PutFault::Full => "the tray holds 32 triggers",
-                };
-                return write!(f, "{number}, {text}");
-            }
-        };
-        write!(f, "{text}")
+        match *self {
+            Fault::Key => write!(f, "expected trig=tick,number or put=tick,number"),
+            Fault::Fields => write!(f, "expected two fields: tick,number"),
+            Fault::Tick => write!(f, "the tick is not a number"),
+            Fault::Number => write!(f, "the number is not one from 0 to 255"),
+            Fault::Put(fault) => write!(f, "{}, {}", fault.number(), put_text(fault)),
+        }
+    }
+}
+
+fn put_text(fault: PutFault) -> &'static str {
+    match fault {
+        PutFault::TickOver => "the tick is over 1000000000",
+        PutFault::Full => "the tray holds 32 triggers",
+    }
+}
+
+fn table_text(fault: TableFault) -> &'static str {
+    match fault {
+        TableFault::TickOver => "a tick is over 1000000000",
+        TableFault::TickFalls => "a tick is smaller than the one before it",
+    }
+}
+
+impl From<PutFault> for Fault {
+    fn from(fault: PutFault) -> Fault {
+        Fault::Put(fault)
     }
 }
 
@@ -42,13 +55,33 @@ fn read_trigger(text: &str) -> Result<Trigger, Fault> {
     let (Some(tick), Some(number), None) = (fields.next(), fields.next(), fields.next()) else {
         return Err(Fault::Fields);
     };
-    let Ok(tick) = tick.parse::<u32>() else {
-        return Err(Fault::Tick);
-    };
-    let Ok(number) = number.parse::<u8>() else {
-        return Err(Fault::Number);
-    };
+    let tick = tick.parse::<u32>().map_err(|_| Fault::Tick)?;
+    let number = number.parse::<u8>().map_err(|_| Fault::Number)?;
     Ok(Trigger { tick, number })
+}
+
+// Takes one line of the input: puts its trigger into the tray, or answers it as the table's next record.
+fn read_line(tray: &mut Tray, line: &str) -> Result<Option<Trigger>, Fault> {
+    if let Some(text) = line.strip_prefix("trig=") {
+        return Ok(Some(read_trigger(text)?));
+    }
+    let text = line.strip_prefix("put=").ok_or(Fault::Key)?;
+    let Trigger { tick, number } = read_trigger(text)?;
+    tray.put(tick, number)?;
+    Ok(None)
+}
+
+// Why the input gives no triggers: the first line that cannot be used, or a failed read, or a want of memory.
+#[derive(Drop)]
+enum InputError {
+    Bad(usize, Fault),
+    Other(anyhow::Error),
+}
+
+impl<E: Error> From<E> for InputError {
+    fn from(e: E) -> InputError {
+        InputError::Other(e.into())
+    }
 }
 
 // What the input gives.
@@ -58,50 +91,19 @@ struct Triggers {
     tray: Tray,
 }
 
-// Takes one line of the input.
-fn read_line(triggers: &mut Triggers, line: &str) -> anyhow::Result<Result<(), Fault>> {
-    if let Some(text) = line.strip_prefix("trig=") {
-        return Ok(match read_trigger(text) {
-            Ok(row) => {
-                triggers.rows.push(row)?;
-                Ok(())
-            }
-            Err(fault) => Err(fault),
-        });
-    }
-    if let Some(text) = line.strip_prefix("put=") {
-        return Ok(match read_trigger(text) {
-            Ok(t) => match triggers.tray.put(t.tick, t.number) {
-                Ok(()) => Ok(()),
-                Err(fault) => Err(Fault::Put(fault)),
-            },
-            Err(fault) => Err(fault),
-        });
-    }
-    Ok(Err(Fault::Key))
-}
-
-// The whole input, or the first line that cannot be used.
-#[derive(Drop)]
-enum Input {
-    Triggers(Triggers),
-    Bad(usize, Fault),
-}
-
-fn read_input(rt: &HostRuntime) -> anyhow::Result<Input> {
-    let mut triggers = Triggers {
-        rows: Vec::new(rt.alloc()),
-        tray: Tray::new(),
-    };
+fn read_input(rt: &HostRuntime) -> Result<Triggers, InputError> {
+    let mut rows = Vec::new(rt.alloc());
+    let mut tray = Tray::new();
     let mut count = 0usize;
     for line in rt.lines(rt.alloc()) {
         let line = line?;
         count = count.saturating_add(1);
-        if let Err(fault) = read_line(&mut triggers, line.as_str())? {
-            return Ok(Input::Bad(count, fault));
+        let row = read_line(&mut tray, line.as_str()).map_err(|f| InputError::Bad(count, f))?;
+        if let Some(row) = row {
+            rows.push(row)?;
         }
     }
-    Ok(Input::Triggers(triggers))
+    Ok(Triggers { rows, tray })
 }
 
 // Prints all that a pair gives, with the side that each trigger comes from.
@@ -112,31 +114,27 @@ fn print_merged<L: Source, R: Source>(rt: &HostRuntime, pair: &mut Pair<L, R>) -
         } else {
             "tray"
         };
-        let tick = trigger.tick;
-        let number = trigger.number;
+        let Trigger { tick, number } = trigger;
         println!(rt; "{tick},{number} {side}")?;
         pair.remove();
     }
     Ok(())
 }
 
+// Prints the table and the tray as one list, or why the records make no table.
+fn print_triggers(rt: &HostRuntime, triggers: Triggers) -> io::Result<()> {
+    let rows = triggers.rows.as_slice();
+    match Table::check(rows) {
+        Ok(()) => print_merged(rt, &mut Pair::new(Table::new(rows), triggers.tray)),
+        Err(fault) => println!(rt; "refused: table: {}, {}", fault.number(), table_text(fault)),
+    }
+}
+
 fn main(rt: HostRuntime) -> anyhow::Result<()> {
-    match read_input(&rt)? {
-        Input::Triggers(triggers) => {
-            let rows = triggers.rows.as_slice();
-            match Table::check(rows) {
-                Ok(()) => print_merged(&rt, &mut Pair::new(Table::new(rows), triggers.tray))?,
-                Err(fault) => {
-                    let number = fault.number();
-                    let text = match fault {
-                        TableFault::TickOver => "a tick is over 1000000000",
-                        TableFault::TickFalls => "a tick is smaller than the one before it",
-                    };
-                    println!(rt; "refused: table: {number}, {text}")?;
-                }
-            }
-        }
-        Input::Bad(line, fault) => println!(rt; "refused: line {line}: {fault}")?,
+    match read_input(&rt) {
+        Ok(triggers) => print_triggers(&rt, triggers)?,
+        Err(InputError::Bad(line, fault)) => println!(rt; "refused: line {line}: {fault}")?,
+        Err(InputError::Other(e)) => return Err(e),
     }
     Ok(())
 }

@@ -6,6 +6,7 @@ ghost use Rattle.std.specs.List.{slice_get};
 ghost use Rattle.parts.specs.declared.part.Scope.{Scope};
 ghost use Rattle.parts.specs.Limits.{group_fits, counts_fit, variable_fits, assignment_fits, reset_fits, invariant_fits, condition_fits, label_fits, task_fits, location_fits, edge_fits, present_or_none};
 
+mod display;
 pub mod part;
 
 use part::{

@@ -102,7 +102,7 @@ pub struct Scope {
 }
 
 // The rule that a refused part breaks.
-#[derive(Clone, Copy)]
+#[derive(Clone, Copy, PartialEq, Eq, Debug)]
 pub enum Rule {
     // 1 to 8 automata, at most 16 clocks, 16 triggers and 8 channels
     BadCounts,

@@ -7,3 +7,4 @@ pub mod Rules
 pub mod Runs
 pub mod Laws
 pub mod Examples
+pub mod Shown

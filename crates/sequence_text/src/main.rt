@@ -1,7 +1,6 @@
 // Reads a sequence text from standard input, prints what it holds and writes it back, or prints the refusal.
 #![tactic(auto)]
 
-use lexical::fault::Report;
 use reader::read_sequence;
 use sequence::memory::Memory;
 use sequence::whole::Sequence;
@@ -32,21 +31,13 @@ fn print_text(rt: &HostRuntime, sequence: &Sequence, out: &mut [u8]) -> io::Resu
     match write_sequence(sequence, out) {
         Ok(length) => {
             println!(rt; "its text, {length} bytes:")?;
-            if length <= out.len() {
-                rt.stdout().write_all(&out[..length])?;
+            if let Some(text) = out.get(..length) {
+                rt.stdout().write_all(text)?;
             }
             Ok(())
         }
-        Err(short) => print_report(rt, short.report()),
+        Err(short) => println!(rt; "{}", short.report()),
     }
-}
-
-fn print_report(rt: &HostRuntime, report: Report) -> io::Result<()> {
-    let cause = report.cause;
-    let layer = report.layer;
-    let line = report.line;
-    let column = report.column;
-    println!(rt; "refused={cause},{layer},{line},{column}")
 }
 
 fn main(rt: HostRuntime) -> anyhow::Result<()> {
@@ -61,7 +52,7 @@ fn main(rt: HostRuntime) -> anyhow::Result<()> {
             let mut out = vec![in rt.alloc(); 0u8; LONGEST_TEXT]?;
             print_text(&rt, &sequence, &mut out)?;
         }
-        Err(refusal) => print_report(&rt, refusal.fault.report())?,
+        Err(refusal) => println!(rt; "{}", refusal.fault.report())?,
     }
     Ok(())
 }

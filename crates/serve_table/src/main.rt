@@ -10,6 +10,8 @@ use jobs::Order;
 use jobs::job::{Job, OrderName, Policy};
 use ready_queue::queue::{QueueFull, ReadyQueue};
 use row::{Fault, Row};
+use std::error::Error;
+use std::ops::ControlFlow;
 use std::{fmt, io};
 
 const LAST_TICK: u32 = 1_000_000_000;
@@ -52,9 +54,9 @@ fn checked_row(
     if deadline < cost || deadline > LONGEST {
         return Err(Fault::Deadline);
     }
-    if priority > 255 {
+    let Ok(priority) = u8::try_from(priority) else {
         return Err(Fault::Priority);
-    }
+    };
     if release < last {
         return Err(Fault::Falls);
     }
@@ -62,15 +64,12 @@ fn checked_row(
         release,
         cost,
         deadline,
-        priority: priority as u8,
+        priority,
     })
 }
 
 fn number(text: &str) -> Result<u32, Fault> {
-    match text.parse::<u32>() {
-        Ok(n) => Ok(n),
-        Err(_) => Err(Fault::Number),
-    }
+    text.parse::<u32>().map_err(|_| Fault::Number)
 }
 
 fn read_row(last: u32, line: &str) -> Result<Row, Fault> {
@@ -95,142 +94,124 @@ fn read_row(last: u32, line: &str) -> Result<Row, Fault> {
     }
 }
 
-// How a run stands: the tick, how many rows were released and done, and the job that works since a tick.
+// A run: the jobs that wait, the tick, the rows to come, how many were released and done, and the job that works since a tick.
 #[derive(Clone, Copy)]
-struct Progress {
+struct Run<'a> {
+    queue: ReadyQueue,
     now: u32,
+    to_come: &'a [Row],
     released: usize,
     done: u32,
     working: Option<(u32, u32)>,
 }
 
-// Prints the stretch of ticks in which one job worked, if there is one.
-fn close_stretch(rt: &HostRuntime, p: &mut Progress) -> io::Result<()> {
-    if let Some((from, job)) = p.working {
-        let to = p.now;
-        println!(rt; "ticks {from} to {to}: job {job} works")?;
-        p.working = None;
-    }
-    Ok(())
-}
-
-// A first job with nothing remaining is done and leaves.
-fn finish(rt: &HostRuntime, queue: &mut ReadyQueue, p: &mut Progress) -> io::Result<()> {
-    if let Some(job) = queue.first() {
-        if job.remaining == 0 {
-            let _ = queue.remove_first();
-            close_stretch(rt, p)?;
-            let tick = p.now;
-            let number = job.number;
-            println!(rt; "tick {tick}: job {number} done")?;
-            p.done = p.done.saturating_add(1);
+impl<'a> Run<'a> {
+    fn new(rows: &'a [Row]) -> Self {
+        Run {
+            queue: ReadyQueue::new(),
+            now: 0,
+            to_come: rows,
+            released: 0,
+            done: 0,
+            working: None,
         }
     }
-    Ok(())
-}
 
-// Releases the rows of this tick; false where a job finds no place.
-fn release<O: Order>(
-    rt: &HostRuntime,
-    order: &O,
-    rows: &[Row],
-    queue: &mut ReadyQueue,
-    p: &mut Progress,
-) -> io::Result<bool> {
-    for i in p.released..rows.len() {
-        let row = rows[i];
-        if row.release != p.now {
-            break;
+    // Prints the stretch of ticks in which one job worked, if there is one.
+    fn close_stretch(&mut self, rt: &HostRuntime) -> io::Result<()> {
+        if let Some((from, job)) = self.working {
+            let to = self.now;
+            println!(rt; "ticks {from} to {to}: job {job} works")?;
+            self.working = None;
         }
-        let Ok(number) = u32::try_from(i) else {
-            return Ok(false);
-        };
-        let job = Job::released(number, 0, row.cost, row.deadline, row.priority, row.release);
-        if let Err(QueueFull(job)) = queue.release(order, job) {
-            close_stretch(rt, p)?;
-            let tick = p.now;
-            let number = job.number;
-            println!(rt; "tick {tick}: job {number} finds 32 jobs waiting")?;
-            return Ok(false);
-        }
-        p.released = i + 1;
+        Ok(())
     }
-    Ok(true)
-}
 
-// One tick of the processor, or a leap to the next release where nobody waits; false where nothing is left to do.
-fn pass(
-    rt: &HostRuntime,
-    rows: &[Row],
-    queue: &mut ReadyQueue,
-    p: &mut Progress,
-) -> io::Result<bool> {
-    if p.now >= LAST_TICK {
-        return Ok(false);
-    }
-    match queue.serve() {
-        Some(job) => {
-            let same = match p.working {
-                Some((_, number)) => number == job.number,
-                None => false,
-            };
-            if !same {
-                close_stretch(rt, p)?;
-                p.working = Some((p.now, job.number));
-            }
-            p.now = p.now.saturating_add(1);
-            Ok(true)
-        }
-        None => match rows.get(p.released) {
-            Some(row) => {
-                p.now = row.release;
-                Ok(true)
-            }
-            None => Ok(false),
-        },
-    }
-}
-
-// One tick: late, finish, release, work. False where the run is over.
-fn serve_tick<O: Order>(
-    rt: &HostRuntime,
-    order: &O,
-    rows: &[Row],
-    queue: &mut ReadyQueue,
-    p: &mut Progress,
-) -> io::Result<bool> {
-    if let Some(job) = queue.first_late(p.now) {
-        close_stretch(rt, p)?;
-        let tick = p.now;
+    // Prints what happens to a job in this tick, behind the stretch that it ends.
+    fn report(&mut self, rt: &HostRuntime, job: &Job, what: &str) -> io::Result<()> {
+        self.close_stretch(rt)?;
+        let tick = self.now;
         let number = job.number;
-        println!(rt; "tick {tick}: job {number} late")?;
-        return Ok(false);
+        println!(rt; "tick {tick}: job {number} {what}")
     }
-    finish(rt, queue, p)?;
-    if !release(rt, order, rows, queue, p)? {
-        return Ok(false);
+
+    // A first job with nothing remaining is done and leaves.
+    fn finish(&mut self, rt: &HostRuntime) -> io::Result<()> {
+        if let Some(job) = self.queue.first() {
+            if job.remaining == 0 {
+                let _ = self.queue.remove_first();
+                self.report(rt, &job, "done")?;
+                self.done = self.done.saturating_add(1);
+            }
+        }
+        Ok(())
     }
-    pass(rt, rows, queue, p)
+
+    // Releases the rows of this tick; a job that finds no place ends the run.
+    fn release<O: Order>(&mut self, rt: &HostRuntime, order: &O) -> io::Result<ControlFlow<()>> {
+        while let [row, later @ ..] = self.to_come {
+            if row.release != self.now {
+                break;
+            }
+            let Ok(number) = u32::try_from(self.released) else {
+                return Ok(ControlFlow::Break(()));
+            };
+            let job = Job::released(number, 0, row.cost, row.deadline, row.priority, row.release);
+            if let Err(QueueFull(job)) = self.queue.release(order, job) {
+                self.report(rt, &job, "finds 32 jobs waiting")?;
+                return Ok(ControlFlow::Break(()));
+            }
+            self.to_come = later;
+            self.released = self.released.saturating_add(1);
+        }
+        Ok(ControlFlow::Continue(()))
+    }
+
+    // One tick of the processor, or a leap to the next release where nobody waits, if anything is left to do.
+    fn pass(&mut self, rt: &HostRuntime) -> io::Result<ControlFlow<()>> {
+        if self.now >= LAST_TICK {
+            return Ok(ControlFlow::Break(()));
+        }
+        match (self.queue.serve(), self.to_come.first()) {
+            (Some(job), _) => {
+                if !self.working.is_some_and(|(_, number)| number == job.number) {
+                    self.close_stretch(rt)?;
+                    self.working = Some((self.now, job.number));
+                }
+                self.now = self.now.saturating_add(1);
+            }
+            (None, Some(row)) => self.now = row.release,
+            (None, None) => return Ok(ControlFlow::Break(())),
+        }
+        Ok(ControlFlow::Continue(()))
+    }
+
+    // One tick: late, finish, release, work. It breaks where the run is over.
+    fn tick<O: Order>(&mut self, rt: &HostRuntime, order: &O) -> io::Result<ControlFlow<()>> {
+        if let Some(job) = self.queue.first_late(self.now) {
+            self.report(rt, &job, "late")?;
+            return Ok(ControlFlow::Break(()));
+        }
+        self.finish(rt)?;
+        if self.release(rt, order)?.is_break() {
+            return Ok(ControlFlow::Break(()));
+        }
+        self.pass(rt)
+    }
 }
 
 // Serves the whole table.
 fn serve<O: Order>(rt: &HostRuntime, order: &O, rows: &[Row]) -> io::Result<()> {
-    let mut queue = ReadyQueue::new();
-    let mut p = Progress {
-        now: 0,
-        released: 0,
-        done: 0,
-        working: None,
-    };
+    let mut run = Run::new(rows);
     for _ in 0..=2 * LAST_TICK {
-        if !serve_tick(rt, order, rows, &mut queue, &mut p)? {
+        if run.tick(rt, order)?.is_break() {
             break;
         }
     }
-    close_stretch(rt, &mut p)?;
-    let waiting = queue.len();
-    let tick = p.now;
-    let done = p.done;
+    run.close_stretch(rt)?;
+    let tick = run.now;
+    let done = run.done;
+    let waiting = run.queue.len();
     println!(rt; "tick {tick}: end, {done} done, {waiting} waiting")
 }
 
@@ -241,78 +222,54 @@ struct Plan {
     rows: Vec<Row>,
 }
 
-// The whole input: a plan, or the first line that cannot be used.
+// Why the input gives no plan: the first line that cannot be used, or a failed read, or a want of memory.
 #[derive(Drop)]
-enum Input {
-    Plan(Plan),
+enum InputError {
     Bad(usize, Fault),
+    Other(anyhow::Error),
 }
 
-fn read_input(rt: &HostRuntime) -> anyhow::Result<Input> {
-    let mut plan = Plan {
-        policy: Policy {
-            name: OrderName::Fc,
-            hold: false,
-        },
-        rows: Vec::new(rt.alloc()),
+impl<E: Error> From<E> for InputError {
+    fn from(e: E) -> InputError {
+        InputError::Other(e.into())
+    }
+}
+
+fn read_order(line: &str) -> Result<OrderName, Fault> {
+    let word = line.strip_prefix("order=").ok_or(Fault::Order)?;
+    OrderName::from_word(word.as_bytes()).ok_or(Fault::Order)
+}
+
+fn read_hold(line: &str) -> Result<bool, Fault> {
+    match line {
+        "hold=yes" => Ok(true),
+        "hold=no" => Ok(false),
+        _ => Err(Fault::Hold),
+    }
+}
+
+fn read_plan(rt: &HostRuntime) -> Result<Plan, InputError> {
+    let mut lines = rt.lines(rt.alloc());
+    let Some(line) = lines.next() else {
+        return Err(InputError::Bad(1, Fault::Order));
     };
+    let name = read_order(line?.as_str()).map_err(|f| InputError::Bad(1, f))?;
+    let Some(line) = lines.next() else {
+        return Err(InputError::Bad(2, Fault::Hold));
+    };
+    let hold = read_hold(line?.as_str()).map_err(|f| InputError::Bad(2, f))?;
+    let mut rows = Vec::new(rt.alloc());
     let mut last = 0;
-    let mut count = 0usize;
-    for line in rt.lines(rt.alloc()) {
+    let mut count = 2usize;
+    for line in lines {
         let line = line?;
         count = count.saturating_add(1);
-        match read_line(&mut plan, count, last, line.as_str())? {
-            Ok(release) => last = release,
-            Err(fault) => return Ok(Input::Bad(count, fault)),
-        }
+        let row = read_row(last, line.as_str()).map_err(|f| InputError::Bad(count, f))?;
+        last = row.release;
+        rows.push(row)?;
     }
-    if count < 2 {
-        let fault = if count == 0 {
-            Fault::Order
-        } else {
-            Fault::Hold
-        };
-        return Ok(Input::Bad(count.saturating_add(1), fault));
-    }
-    Ok(Input::Plan(plan))
-}
-
-// Takes one line into the plan, and answers the last release tick.
-fn read_line(
-    plan: &mut Plan,
-    count: usize,
-    last: u32,
-    line: &str,
-) -> anyhow::Result<Result<u32, Fault>> {
-    if count == 1 {
-        return Ok(match line.strip_prefix("order=") {
-            Some(word) => match OrderName::from_word(word.as_bytes()) {
-                Some(name) => {
-                    plan.policy.name = name;
-                    Ok(last)
-                }
-                None => Err(Fault::Order),
-            },
-            None => Err(Fault::Order),
-        });
-    }
-    if count == 2 {
-        return Ok(match line {
-            "hold=yes" => {
-                plan.policy.hold = true;
-                Ok(last)
-            }
-            "hold=no" => Ok(last),
-            _ => Err(Fault::Hold),
-        });
-    }
-    match read_row(last, line) {
-        Ok(row) => {
-            plan.rows.push(row)?;
-            Ok(Ok(row.release))
-        }
-        Err(fault) => Ok(Err(fault)),
-    }
+    let policy = Policy { name, hold };
+    Ok(Plan { policy, rows })
 }
 
 fn run_plan(rt: &HostRuntime, plan: &Plan) -> io::Result<()> {
@@ -324,9 +281,10 @@ fn run_plan(rt: &HostRuntime, plan: &Plan) -> io::Result<()> {
 }
 
 fn main(rt: HostRuntime) -> anyhow::Result<()> {
-    match read_input(&rt)? {
-        Input::Plan(plan) => run_plan(&rt, &plan)?,
-        Input::Bad(line, fault) => println!(rt; "refused: line {line}: {fault}")?,
+    match read_plan(&rt) {
+        Ok(plan) => run_plan(&rt, &plan)?,
+        Err(InputError::Bad(line, fault)) => println!(rt; "refused: line {line}: {fault}")?,
+        Err(InputError::Other(e)) => return Err(e),
     }
     Ok(())
 }

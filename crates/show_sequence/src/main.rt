@@ -11,32 +11,6 @@ use sequence::memory::Memory;
 use sequence::whole::Sequence;
 use std::io;
 
-fn rule_text(rule: Rule) -> &'static str {
-    match rule {
-        Rule::BadCounts =>
-            "there are 1 to 8 automata, at most 16 clocks, 16 triggers and 8 channels",
-        Rule::OutOfTurn =>
-            "variables come before tasks, tasks before locations, locations before edges",
-        Rule::TooMany => "there are at most 16 variables, 16 tasks, 64 locations and 128 edges",
-        Rule::BadVariable => "the start lies from low to high",
-        Rule::BadTask => "1 <= C <= D <= 1000000, and it assigns variables that are there",
-        Rule::BadLocation => "its task and its clocks are there, its bounds at most 1000000000",
-        Rule::BadAutomaton => "locations go automaton by automaton, none left out",
-        Rule::BadEnds => "both ends are there and of one automaton",
-        Rule::BadEdge => "it refers to what is there, with constants in range",
-    }
-}
-
-fn sign(relation: Relation) -> &'static str {
-    match relation {
-        Relation::Lt => "<",
-        Relation::Le => "<=",
-        Relation::Eq => "=",
-        Relation::Ge => ">=",
-        Relation::Gt => ">",
-    }
-}
-
 // An edge with nothing but its ends.
 fn plain(from: u8, to: u8) -> Edge {
     Edge {
@@ -116,9 +90,12 @@ fn add_parts(draft: &mut Draft) -> Result<(), Rule> {
 }
 
 fn print_assignment(rt: &HostRuntime, assignment: Assignment) -> io::Result<()> {
-    let target = assignment.target;
-    let constant = assignment.constant;
-    match assignment.source {
+    let Assignment {
+        target,
+        source,
+        constant,
+    } = assignment;
+    match source {
         None => println!(rt; "  sets variable {target} to {constant}"),
         Some(source) => println!(rt; "  sets variable {target} to variable {source} + {constant}"),
     }
@@ -127,35 +104,33 @@ fn print_assignment(rt: &HostRuntime, assignment: Assignment) -> io::Result<()> 
 fn print_condition(rt: &HostRuntime, condition: Condition) -> io::Result<()> {
     match condition {
         Condition::Clock(clock, relation, k) => {
-            let sign = sign(relation);
-            println!(rt; "  when clock {clock} {sign} {k}")
+            println!(rt; "  when clock {clock} {relation} {k}")
         }
         Condition::Difference(first, second, relation, k) => {
-            let sign = sign(relation);
-            println!(rt; "  when clock {first} - clock {second} {sign} {k}")
+            println!(rt; "  when clock {first} - clock {second} {relation} {k}")
         }
         Condition::Variable(variable, relation, k) => {
-            let sign = sign(relation);
-            println!(rt; "  when variable {variable} {sign} {k}")
+            println!(rt; "  when variable {variable} {relation} {k}")
         }
     }
 }
 
 fn print_assignments(rt: &HostRuntime, assignments: &[Option<Assignment>; 4]) -> io::Result<()> {
-    for assignment in assignments {
-        if let Some(assignment) = assignment {
-            print_assignment(rt, *assignment)?;
-        }
+    for assignment in assignments.iter().flatten() {
+        print_assignment(rt, *assignment)?;
     }
     Ok(())
 }
 
 fn print_task(rt: &HostRuntime, number: usize, task: &Task) -> io::Result<()> {
-    let cost = task.cost;
-    let deadline = task.deadline;
-    let priority = task.priority;
+    let Task {
+        cost,
+        deadline,
+        priority,
+        assignments,
+    } = task;
     println!(rt; "task {number}: C {cost}, D {deadline}, P {priority}")?;
-    print_assignments(rt, &task.assignments)
+    print_assignments(rt, assignments)
 }
 
 fn print_location(rt: &HostRuntime, number: usize, location: &Location) -> io::Result<()> {
@@ -164,13 +139,14 @@ fn print_location(rt: &HostRuntime, number: usize, location: &Location) -> io::R
     if let Some(task) = location.task {
         println!(rt; "  releases task {task}")?;
     }
-    for invariant in &location.invariants {
-        if let Some(invariant) = invariant {
-            let clock = invariant.clock;
-            let sign = if invariant.strict { "<" } else { "<=" };
-            let bound = invariant.bound;
-            println!(rt; "  while clock {clock} {sign} {bound}")?;
-        }
+    for invariant in location.invariants.iter().flatten() {
+        let Invariant {
+            clock,
+            strict,
+            bound,
+        } = *invariant;
+        let sign = if strict { "<" } else { "<=" };
+        println!(rt; "  while clock {clock} {sign} {bound}")?;
     }
     Ok(())
 }
@@ -185,31 +161,25 @@ fn print_edge(rt: &HostRuntime, number: usize, edge: &Edge) -> io::Result<()> {
         Label::Send(n) => println!(rt; "  sends on channel {n}")?,
         Label::Receive(n) => println!(rt; "  receives on channel {n}")?,
     }
-    for condition in &edge.guard {
-        if let Some(condition) = condition {
-            print_condition(rt, *condition)?;
-        }
+    for condition in edge.guard.iter().flatten() {
+        print_condition(rt, *condition)?;
     }
-    for reset in &edge.resets {
-        if let Some(reset) = reset {
-            let clock = reset.clock;
-            println!(rt; "  zeroes clock {clock}")?;
-        }
+    for Reset { clock } in edge.resets.iter().flatten() {
+        println!(rt; "  zeroes clock {clock}")?;
     }
     print_assignments(rt, &edge.assignments)
 }
 
 fn print_sequence(rt: &HostRuntime, sequence: &Sequence) -> io::Result<()> {
-    let counts = sequence.counts();
-    let automata = counts.automata;
-    let clocks = counts.clocks;
-    let triggers = counts.triggers;
-    let channels = counts.channels;
+    let Counts {
+        automata,
+        clocks,
+        triggers,
+        channels,
+    } = sequence.counts();
     println!(rt; "automata {automata}, clocks {clocks}, triggers {triggers}, channels {channels}")?;
     for (number, variable) in sequence.variables().iter().enumerate() {
-        let low = variable.low;
-        let high = variable.high;
-        let start = variable.start;
+        let Variable { low, high, start } = variable;
         println!(rt; "variable {number}: from {low} to {high}, starts at {start}")?;
     }
     for (number, task) in sequence.tasks().iter().enumerate() {
@@ -232,19 +202,14 @@ fn main(rt: HostRuntime) -> anyhow::Result<()> {
         triggers: 1,
         channels: 0,
     };
-    let Ok(mut draft) = Draft::begin(memory, counts) else {
-        return Err(anyhow!("{}", rule_text(Rule::BadCounts)));
-    };
-    if let Err(rule) = add_parts(&mut draft) {
-        return Err(anyhow!("{}", rule_text(rule)));
-    }
+    let mut draft = Draft::begin(memory, counts).map_err(|_| Rule::BadCounts)?;
+    add_parts(&mut draft)?;
     if let Err(rule) = draft.add_edge(plain(2, 3)) {
-        let text = rule_text(rule);
-        println!(rt; "refused: an edge from 2 to 3 (rule: {text})")?;
+        println!(rt; "refused: an edge from 2 to 3 (rule: {rule})")?;
     }
-    match draft.finish() {
-        Ok(sequence) => print_sequence(&rt, &sequence)?,
-        Err(_) => return Err(anyhow!("an automaton has no location")),
-    }
+    let Ok(sequence) = draft.finish() else {
+        return Err(anyhow!("an automaton has no location"));
+    };
+    print_sequence(&rt, &sequence)?;
     Ok(())
 }
