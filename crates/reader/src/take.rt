@@ -17,6 +17,13 @@ use lines::variable::{assignment_line, variable_line};
 use parts::part::{Assignment, Rule};
 use sequence::draft::Draft;
 
+// A line was taken: more lines follow, or it was the last.
+#[derive(Clone, Copy)]
+pub(crate) enum Taken {
+    More,
+    Last,
+}
+
 // How many there are of what a line may refer to.
 fn present(draft: &Draft) -> Present
     ensures { there_of result ≡ there (plan_of draft.now) }
@@ -34,13 +41,12 @@ fn present(draft: &Draft) -> Present
 }
 
 // The part of a line that was read can break no rule but that of its automaton.
-fn placed(answer: Result<(), Rule>, at: Place) -> Result<bool, SequenceFault>
+fn placed(answer: Result<(), Rule>, at: Place) -> Result<Taken, SequenceFault>
     ensures { result ≡ placed at answer }
 {
-    match answer {
-        Ok(()) => Ok(false),
-        Err(_) => Err(SequenceFault::WrongAutomaton(at)),
-    }
+    answer
+        .map(|()| Taken::More)
+        .map_err(|_| SequenceFault::WrongAutomaton(at))
 }
 
 // An assignment goes to the last task, or to the last edge where there is one.
@@ -54,112 +60,15 @@ fn add_assignment(draft: &mut Draft, assignment: Assignment) -> Result<(), Rule>
     }
 }
 
-// A variable.
-fn take_variable(draft: &mut Draft, at: Place, value: &[u8]) -> Result<bool, SequenceFault>
-    requires { at.column + length value.now < 2 ^ 64 }
-    ensures { TakesValue kind.Var (plan_of draft.old) at value.now (plan_of draft.new) result }
-{
-    let variable = variable_line(value, at)?;
-    placed(draft.add_variable(variable), at)
-}
-
-// A task.
-fn take_task(draft: &mut Draft, at: Place, value: &[u8]) -> Result<bool, SequenceFault>
-    requires { at.column + length value.now < 2 ^ 64 }
-    ensures { TakesValue kind.Task (plan_of draft.old) at value.now (plan_of draft.new) result }
-{
-    let task = task_line(value, at)?;
-    placed(draft.add_task(task), at)
-}
-
-// An assignment.
-fn take_assignment(draft: &mut Draft, at: Place, value: &[u8]) -> Result<bool, SequenceFault>
-    requires { at.column + length value.now < 2 ^ 64 }
-    ensures { TakesValue kind.Set (plan_of draft.old) at value.now (plan_of draft.new) result }
-{
-    let assignment = assignment_line(value, at, present(draft))?;
-    placed(add_assignment(draft, assignment), at)
-}
-
-// A location.
-fn take_location(draft: &mut Draft, at: Place, value: &[u8]) -> Result<bool, SequenceFault>
-    requires { at.column + length value.now < 2 ^ 64 }
-    ensures { TakesValue kind.Loc (plan_of draft.old) at value.now (plan_of draft.new) result }
-{
-    let location = location_line(value, at, present(draft))?;
-    placed(draft.add_location(location), at)
-}
-
-// An invariant.
-fn take_invariant(draft: &mut Draft, at: Place, value: &[u8]) -> Result<bool, SequenceFault>
-    requires { at.column + length value.now < 2 ^ 64 }
-    ensures { TakesValue kind.Inv (plan_of draft.old) at value.now (plan_of draft.new) result }
-{
-    let invariant = invariant_line(value, at, present(draft))?;
-    placed(draft.add_invariant(invariant), at)
-}
-
-// An edge.
-fn take_edge(draft: &mut Draft, at: Place, value: &[u8]) -> Result<bool, SequenceFault>
-    requires { at.column + length value.now < 2 ^ 64 }
-    ensures { TakesValue kind.Edge (plan_of draft.old) at value.now (plan_of draft.new) result }
-{
-    let edge = edge_line(value, at, present(draft))?;
-    placed(draft.add_edge(edge), at)
-}
-
-// A condition on a clock.
-fn take_clock_condition(draft: &mut Draft, at: Place, value: &[u8]) -> Result<bool, SequenceFault>
-    requires { at.column + length value.now < 2 ^ 64 }
-    ensures { TakesValue kind.Clk (plan_of draft.old) at value.now (plan_of draft.new) result }
-{
-    let condition = clock_line(value, at, present(draft))?;
-    placed(draft.add_condition(condition), at)
-}
-
-// A condition on the difference of two clocks.
-fn take_difference_condition(
-    draft: &mut Draft,
-    at: Place,
-    value: &[u8],
-) -> Result<bool, SequenceFault>
-    requires { at.column + length value.now < 2 ^ 64 }
-    ensures { TakesValue kind.Dif (plan_of draft.old) at value.now (plan_of draft.new) result }
-{
-    let condition = difference_line(value, at, present(draft))?;
-    placed(draft.add_condition(condition), at)
-}
-
-// A condition on a variable.
-fn take_variable_condition(
-    draft: &mut Draft,
-    at: Place,
-    value: &[u8],
-) -> Result<bool, SequenceFault>
-    requires { at.column + length value.now < 2 ^ 64 }
-    ensures { TakesValue kind.Val (plan_of draft.old) at value.now (plan_of draft.new) result }
-{
-    let condition = value_line(value, at, present(draft))?;
-    placed(draft.add_condition(condition), at)
-}
-
-// A clock to zero.
-fn take_reset(draft: &mut Draft, at: Place, value: &[u8]) -> Result<bool, SequenceFault>
-    ensures { TakesValue kind.Zero (plan_of draft.old) at value.now (plan_of draft.new) result }
-{
-    let reset = reset_line(value, at, present(draft))?;
-    placed(draft.add_reset(reset), at)
-}
-
 // The last line says how many edges there are.
-fn take_edge_count(draft: &Draft, at: Place, value: &[u8]) -> Result<bool, SequenceFault>
+fn take_edge_count(draft: &Draft, at: Place, value: &[u8]) -> Result<Taken, SequenceFault>
     ensures { TakesValue kind.Edges (plan_of draft.now) at value.now (plan_of draft.now) result }
 {
     let count = edge_count_line(value, at)?;
     if count as usize != draft.edges().len() {
         return Err(SequenceFault::WrongEdgeCount(at));
     }
-    Ok(true)
+    Ok(Taken::Last)
 }
 
 // The value of a line of a kind.
@@ -168,25 +77,32 @@ pub(crate) fn take_value(
     key: Key,
     at: Place,
     value: &[u8],
-) -> Result<bool, SequenceFault>
+) -> Result<Taken, SequenceFault>
     requires { at.column + length value.now < 2 ^ 64 }
     ensures { TakesValue key (plan_of draft.old) at value.now (plan_of draft.new) result }
 {
+    let present = present(draft);
     match key {
         // never allowed behind the counts
-        Key::Form | Key::Autos | Key::Clocks | Key::Triggers | Key::Chans => Err(
-            SequenceFault::Line(LineFault::KeyNotAllowed(at)),
+        Key::Form | Key::Autos | Key::Clocks | Key::Triggers | Key::Chans => {
+            Err(LineFault::KeyNotAllowed(at).into())
+        }
+        Key::Var => placed(draft.add_variable(variable_line(value, at)?), at),
+        Key::Task => placed(draft.add_task(task_line(value, at)?), at),
+        Key::Set => placed(
+            add_assignment(draft, assignment_line(value, at, present)?),
+            at,
         ),
-        Key::Var => take_variable(draft, at, value),
-        Key::Task => take_task(draft, at, value),
-        Key::Set => take_assignment(draft, at, value),
-        Key::Loc => take_location(draft, at, value),
-        Key::Inv => take_invariant(draft, at, value),
-        Key::Edge => take_edge(draft, at, value),
-        Key::Clk => take_clock_condition(draft, at, value),
-        Key::Dif => take_difference_condition(draft, at, value),
-        Key::Val => take_variable_condition(draft, at, value),
-        Key::Zero => take_reset(draft, at, value),
+        Key::Loc => placed(draft.add_location(location_line(value, at, present)?), at),
+        Key::Inv => placed(draft.add_invariant(invariant_line(value, at, present)?), at),
+        Key::Edge => placed(draft.add_edge(edge_line(value, at, present)?), at),
+        Key::Clk => placed(draft.add_condition(clock_line(value, at, present)?), at),
+        Key::Dif => placed(
+            draft.add_condition(difference_line(value, at, present)?),
+            at,
+        ),
+        Key::Val => placed(draft.add_condition(value_line(value, at, present)?), at),
+        Key::Zero => placed(draft.add_reset(reset_line(value, at, present)?), at),
         Key::Edges => take_edge_count(draft, at, value),
     }
 }
