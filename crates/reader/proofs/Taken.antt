@@ -129,14 +129,16 @@ module _ (p : Plan) (at : Place) where
 
 module _ {X : Type 0} {p : Plan} {at : Place} {k : Key} {part : Fields k → X} {add : Plan → X → Result Plan Rule} (accepts : Accepts p at k part add) (value : List ℕ) {n : There} (same : n ≡ there p) {d : Key} (is : d ≡ k) where
   -- its part was read, and the draft answered
-  pub taken : {x : X} → Ok x ≡ part_of n k part at value → (after : Plan) (a : Result Unit Rule) → Adds (add p x) p after a → (r : Result Taken SequenceFault) → r ≡ placed at a → TakesValue d p at value after r
-  taken {x} h after a added r s =
+  pub taken : {x : X} → Ok x ≡ part_of n k part at value → {q : Plan} {a : Result Unit Rule} → Adds (add p x) p q a → {after : Plan} → after ≡ q → {b : Result Unit Rule} → b ≡ a → (r : Result Taken SequenceFault) → r ≡ placed at b → TakesValue d p at value after r
+  taken {x} h {q} {a} added {after} t {b} u r s =
       by_kind p at value after r d k is (λ l m.
       let i = read_into p k part at value x (at_there p k part at value n same (Ok x) h) in
       let f = accepts.fields i.fields l m i.good in
-      subst (λ (y : Result Taken SequenceFault). Takes (take_value k p at value) p after y) (sym s)
-      (by_answer at p after f.after f.rule f.fits (add p (part i.fields)) (take_value k p at value) f.adds (i.does ∙ f.takes) a
-      (subst (λ (y : X). Adds (add p y) p after a) (sym i.is) added)))
+      let e : r ≡ placed at a = s ∙ ap (placed at) u in
+      let g : Takes (take_value k p at value) p q (placed at a) =
+      by_answer at p q f.after f.rule f.fits (add p (part i.fields)) (take_value k p at value) f.adds (i.does ∙ f.takes) a
+      (subst (λ (y : X). Adds (add p y) p q a) (sym i.is) added) in
+      subst (λ (y : Plan). Takes (take_value k p at value) p y r) (sym t) (subst (λ (y : Result Taken SequenceFault). Takes (take_value k p at value) p q y) (sym e) g))
 
   -- its value has a fault
   pub refused : {e : SequenceFault} → Err e ≡ part_of n k part at value → (r : Result Taken SequenceFault) → IsErrAnd r (λ x. x ≡ e) → TakesValue d p at value p r

@@ -4,7 +4,7 @@ ghost use Rattle.lexical.specs.declared.key.Key.TheVariants as kind;
 ghost use Rattle.sequence.specs.Model.{plan_of, Adds};
 ghost use Rattle.grammar.specs.Lines.{there};
 ghost use Rattle.lines.specs.Values.{there_of};
-ghost use Rattle.reader.specs.Taking.{TakesValue, add_assignment, placed};
+ghost use Rattle.reader.specs.Taking.{TakesValue, add_assignment};
 
 use lexical::fault::{LineFault, Place, SequenceFault};
 use lexical::key::Key;
@@ -40,20 +40,11 @@ fn present(draft: &Draft) -> Present
     }
 }
 
-// The part of a line that was read can break no rule but that of its automaton.
-fn placed(answer: Result<(), Rule>, at: Place) -> Result<Taken, SequenceFault>
-    ensures { result ≡ placed at answer }
-{
-    answer
-        .map(|()| Taken::More)
-        .map_err(|_| SequenceFault::WrongAutomaton(at))
-}
-
 // An assignment goes to the last task, or to the last edge where there is one.
 fn add_assignment(draft: &mut Draft, assignment: Assignment) -> Result<(), Rule>
     ensures { Adds (add_assignment (plan_of draft.old) assignment) (plan_of draft.old) (plan_of draft.new) result }
 {
-    if draft.edges().len() == 0 {
+    if draft.edges().is_empty() {
         draft.add_task_assignment(assignment)
     } else {
         draft.add_edge_assignment(assignment)
@@ -82,27 +73,25 @@ pub(crate) fn take_value(
     ensures { TakesValue key (plan_of draft.old) at value.now (plan_of draft.new) result }
 {
     let present = present(draft);
-    match key {
+    let added = match key {
         // never allowed behind the counts
         Key::Form | Key::Autos | Key::Clocks | Key::Triggers | Key::Chans => {
-            Err(LineFault::KeyNotAllowed(at).into())
+            return Err(LineFault::KeyNotAllowed(at).into());
         }
-        Key::Var => placed(draft.add_variable(variable_line(value, at)?), at),
-        Key::Task => placed(draft.add_task(task_line(value, at)?), at),
-        Key::Set => placed(
-            add_assignment(draft, assignment_line(value, at, present)?),
-            at,
-        ),
-        Key::Loc => placed(draft.add_location(location_line(value, at, present)?), at),
-        Key::Inv => placed(draft.add_invariant(invariant_line(value, at, present)?), at),
-        Key::Edge => placed(draft.add_edge(edge_line(value, at, present)?), at),
-        Key::Clk => placed(draft.add_condition(clock_line(value, at, present)?), at),
-        Key::Dif => placed(
-            draft.add_condition(difference_line(value, at, present)?),
-            at,
-        ),
-        Key::Val => placed(draft.add_condition(value_line(value, at, present)?), at),
-        Key::Zero => placed(draft.add_reset(reset_line(value, at, present)?), at),
-        Key::Edges => take_edge_count(draft, at, value),
-    }
+        Key::Var => draft.add_variable(variable_line(value, at)?),
+        Key::Task => draft.add_task(task_line(value, at)?),
+        Key::Set => add_assignment(draft, assignment_line(value, at, present)?),
+        Key::Loc => draft.add_location(location_line(value, at, present)?),
+        Key::Inv => draft.add_invariant(invariant_line(value, at, present)?),
+        Key::Edge => draft.add_edge(edge_line(value, at, present)?),
+        Key::Clk => draft.add_condition(clock_line(value, at, present)?),
+        Key::Dif => draft.add_condition(difference_line(value, at, present)?),
+        Key::Val => draft.add_condition(value_line(value, at, present)?),
+        Key::Zero => draft.add_reset(reset_line(value, at, present)?),
+        Key::Edges => return take_edge_count(draft, at, value),
+    };
+    // the part of a line that was read can break no rule but that of its automaton
+    added
+        .map(|()| Taken::More)
+        .map_err(|_| SequenceFault::WrongAutomaton(at))
 }
