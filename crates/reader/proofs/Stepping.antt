@@ -19,10 +19,10 @@ begins b t = go (pieces b t) (pieces_some b t)
     go [] h = let z : ◌≡◌ {A = ℕ} 0 1 = cc in absurd (omega arith)
     go (q ∷ qs) h = (q, qs, refl)
 
-module _ (p : Plan) (n : ℕ) (rest l m : List ℕ) (c : cut newline rest ≡ Some (l, m)) where
-  pub shorter : length l + (length m + 1) ≡ length rest
-  shorter = omega (arith, ap length (cut_back newline rest (l, m) c), length-append l (newline ∷ m))
+pub shorter : (rest l m : List ℕ) → cut newline rest ≡ Some (l, m) → length l + (length m + 1) ≡ length rest
+shorter rest l m c = omega (arith, ap length (cut_back newline rest (l, m) c), length-append l (newline ∷ m))
 
+module _ (p : Plan) (n : ℕ) (rest l m : List ℕ) (c : cut newline rest ≡ Some (l, m)) where
   pub turn : read_lines p n (pieces newline rest) ≡ go_on (take_line p n l) p (pieces newline m) (λ q. read_lines q (n + 1) (pieces newline m))
   turn =
       let b = begins newline m in

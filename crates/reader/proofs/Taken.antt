@@ -1,6 +1,5 @@
 -- What a draft answered, as what the line did.
-use Rattle.std.proofs.Common.{◌≡◌, ℕ, Bool, true, false, cond, eqb, List, length, IsErrAnd, Ok, Err, Result, sym, refl, ap, ◌∙◌, subst, arith}
-use Rattle.std.proofs.lemmas.Bool.{cond-true, cond-false, eq-eqb, ne_eqb}
+use Rattle.std.proofs.Common.{◌≡◌, ℕ, Bool, true, false, cond, List, IsErrAnd, Ok, Err, Result, sym, refl, ap, ◌∙◌, subst, arith}
 use Rattle.parts.specs.declared.part.Rule.{Rule}
 use Rattle.parts.specs.declared.part.Rule.TheVariants.{BadAutomaton, BadEnds}
 use Rattle.sequence.specs.Plan.{Plan, ends_fit}
@@ -10,19 +9,25 @@ use Rattle.sequence.specs.Model.{Adds}
 use Rattle.sequence.proofs.Sound.{Sound}
 use Rattle.lexical.specs.declared.fault.Place.{Place}
 use Rattle.lexical.specs.declared.fault.SequenceFault.{SequenceFault}
-use Rattle.lexical.specs.declared.fault.SequenceFault.TheVariants.{WrongAutomaton, WrongEdgeCount}
+use Rattle.lexical.specs.declared.fault.SequenceFault.TheVariants.{WrongAutomaton}
 use Rattle.lexical.specs.declared.key.Key.{Key}
-use Rattle.lexical.specs.declared.key.Key.TheVariants.{Var, Task, Set, Loc, Inv, Edge, Clk, Dif, Val, Zero, Edges}
+use Rattle.lexical.specs.declared.key.Key.TheVariants.{Var, Task, Set, Loc, Inv, Edge, Clk, Dif, Val, Zero}
 use Rattle.lexical.specs.Bytes.{pieces, comma}
 use Rattle.lexical.specs.Fields.{on}
 use Rattle.grammar.specs.Lines.{There, Fields, row, there}
-use Rattle.grammar.specs.Reading.{Step, more, done, allowed, room, variable_of, task_of, assignment_of, location_of, invariant_of, edge_of, clock_condition, difference_condition, variable_condition, with_assignment, take_fields, take_value}
+use Rattle.grammar.specs.Reading.{Step, more, allowed, room, variable_of, task_of, assignment_of, location_of, invariant_of, edge_of, clock_condition, difference_condition, variable_condition, with_assignment, take_fields, take_value}
 use Rattle.grammar.proofs.Parsing.{on_ok, row_back}
 use Rattle.grammar.proofs.Appending.{clock_fits, difference_fits, value_fits}
-use Rattle.lines.specs.Values.{part_of, reset_of, edge_count_of}
+use Rattle.lines.specs.Values.{part_of, reset_of}
 use Rattle.reader.specs.declared.take.Taken.{Taken}
-use Rattle.reader.specs.Taking.{Takes, placed, add_assignment, TakesValue}
+use Rattle.reader.specs.declared.take.Taken.TheVariants.{More}
+use Rattle.reader.specs.Taking.{Takes, add_assignment, TakesValue}
 use Rattle.reader.proofs.Accepted.{variable_accepted, task_accepted, set_accepted, location_accepted, invariant_accepted, edge_accepted, condition_accepted, reset_accepted}
+
+-- the part of a line that was read can break no rule but that of its automaton
+abbrev pub placed : Place → Result Unit Rule → Result Taken SequenceFault
+placed at (Ok _) = Ok More
+placed at (Err _) = Err (WrongAutomaton at)
 
 module _ (at : Place) (before after q : Plan) (rule : Rule) where
   -- the draft accepts the part if and only if the line is accepted
@@ -144,13 +149,3 @@ module _ {X : Type 0} {p : Plan} {at : Place} {k : Key} {part : Fields k → X} 
   pub refused : {e : SequenceFault} → Err e ≡ part_of n k part at value → (r : Result Taken SequenceFault) → IsErrAnd r (λ x. x ≡ e) → TakesValue d p at value p r
   refused {e} h r s =
       by_kind p at value p r d k is (λ l m. passed_on p (take_value k p at value) e r s (faulted p k part at value e (at_there p k part at value n same (Err e) h)))
-
-module _ (p : Plan) (at : Place) (value : List ℕ) (n : ℕ) (e : Ok n ≡ read p Edges edge_count_of at value) where
-  counted : take_value Edges p at value ≡ cond (eqb n (length p.edges)) (Ok done) (Err (WrongEdgeCount at))
-  counted = let i = read_into p Edges edge_count_of at value n e in i.does ∙ ap (λ m. cond (eqb m (length p.edges)) (Ok done) (Err (WrongEdgeCount at))) i.is
-
-  pub counted_right : n ≡ length p.edges → take_value Edges p at value ≡ Ok done
-  counted_right h = counted ∙ cond-true _ _ _ (eq-eqb n (length p.edges) h)
-
-  pub counted_wrong : (n ≡ length p.edges → ⊥) → take_value Edges p at value ≡ Err (WrongEdgeCount at)
-  counted_wrong h = counted ∙ cond-false _ _ _ (ne_eqb n (length p.edges) h)

@@ -16,6 +16,7 @@ pub(crate) fn read_lines<'a>(draft: &mut Draft, text: &'a [u8]) -> Result<&'a [u
     ensures { MatchResult result (λ rest. read_lines (plan_of draft.old) 6 (pieces newline text.now) ≡ Ok (plan_of draft.new, pieces newline rest.now)) (λ fault. read_lines (plan_of draft.old) 6 (pieces newline text.now) ≡ Err fault) }
 {
     let mut rest = text;
+    // counted by hand: the fault behind the loop names the number of the line that is missing
     let mut number = 6usize;
     while let Some((line, more)) = cut_at(rest, b'\n') {
         match take_line(draft, number, line)? {

@@ -2,8 +2,7 @@ use Rattle.std.proofs.Common.{◌≡◌, ap, rules}
 use Rattle.lexical.specs.declared.key.Key.TheVariants.{Edges}
 use Rattle.sequence.specs.Model.{plan_of}
 use Rattle.sequence.proofs.Sound.{sound_facts}
-use Rattle.reader.specs.Taking.{placed}
-use Rattle.reader.proofs.Taken.{variable, task, assignment, location, invariant, edge, clock, difference, value, reset, taken, refused, by_kind}
+use Rattle.reader.proofs.Taken.{placed, variable, task, assignment, location, invariant, edge, clock, difference, value, reset, taken, refused, by_kind}
 use Rattle.reader.proofs.take.take_value.Goals as goal
 use Rattle.reader.proofs.take.take_value.Goals.{in-Var+in_ok-variable_line-in-Var, in-Task+in_ok-task_line-in-Task, in-Set+in_ok-assignment_line-in-Set, in-Loc+in_ok-location_line-in-Loc, in-Inv+in_ok-invariant_line-in-Inv, in-Edge+in_ok-edge_line-in-Edge, in-Clk+in_ok-clock_line-in-Clk, in-Dif+in_ok-difference_line-in-Dif, in-Val+in_ok-value_line-in-Val, in-Zero+in_ok-reset_line-in-Zero}
 
