@@ -1,5 +1,6 @@
 // How far the lines of a sequence text have come behind the counts: which part was begun last, and of an edge, which group.
-#[derive(Clone, Copy)]
+// The stages are ordered as their lines follow each other.
+#[derive(Clone, Copy, PartialEq, Eq, PartialOrd, Ord)]
 pub enum Stage {
     Variables,
     Tasks,

@@ -1,5 +1,5 @@
 -- One turn of the reading loop.
-use Rattle.std.proofs.Common.{◌≡◌, ℕ, ◌+◌, Bool, true, false, List, [], ◌∷◌, length, Some, None, Ok, Err, sym, refl, ap, ◌∙◌, subst, arith}
+use Rattle.std.proofs.Common.{◌≡◌, ℕ, ◌+◌, true, List, [], ◌∷◌, length, Some, None, Ok, Err, sym, refl, ap, ◌∙◌, subst, arith}
 use Rattle.std.proofs.lemmas.List.{length-append}
 use Rattle.lexical.specs.declared.fault.SequenceFault.{SequenceFault}
 use Rattle.lexical.specs.Bytes.{pieces, cut, newline}
@@ -7,6 +7,8 @@ use Rattle.lexical.proofs.Parting.{some, pieces_some, cut_back}
 use Rattle.lexical.proofs.Cutting.{pieces_cut, pieces_none}
 use Rattle.sequence.specs.Plan.{Plan}
 use Rattle.grammar.specs.Reading.{take_line, go_on, read_lines, malformed}
+use Rattle.reader.specs.declared.take.Taken.{Taken}
+use Rattle.reader.specs.declared.take.Taken.TheVariants.{More, Last}
 use Rattle.reader.specs.Taking.{Takes}
 
 -- pieces are never none
@@ -17,10 +19,10 @@ begins b t = go (pieces b t) (pieces_some b t)
     go [] h = let z : ◌≡◌ {A = ℕ} 0 1 = cc in absurd (omega arith)
     go (q ∷ qs) h = (q, qs, refl)
 
-module _ (p : Plan) (n : ℕ) (rest l m : List ℕ) (c : cut newline rest ≡ Some (l, m)) where
-  pub shorter : length l + (length m + 1) ≡ length rest
-  shorter = omega (arith, ap length (cut_back newline rest (l, m) c), length-append l (newline ∷ m))
+pub shorter : (rest l m : List ℕ) → cut newline rest ≡ Some (l, m) → length l + (length m + 1) ≡ length rest
+shorter rest l m c = omega (arith, ap length (cut_back newline rest (l, m) c), length-append l (newline ∷ m))
 
+module _ (p : Plan) (n : ℕ) (rest l m : List ℕ) (c : cut newline rest ≡ Some (l, m)) where
   pub turn : read_lines p n (pieces newline rest) ≡ go_on (take_line p n l) p (pieces newline m) (λ q. read_lines q (n + 1) (pieces newline m))
   turn =
       let b = begins newline m in
@@ -28,14 +30,14 @@ module _ (p : Plan) (n : ℕ) (rest l m : List ℕ) (c : cut newline rest ≡ So
       ∙ subst (λ (x : List (List ℕ)). read_lines p n (l ∷ x) ≡ go_on (take_line p n l) p x (λ q. read_lines q (n + 1) x)) (sym b.2) refl
 
   -- the last line, at which nothing changes
-  pub at_last : (q : Plan) (b : Bool) → b ≡ true → Takes (take_line p n l) p q (Ok b) → read_lines p n (pieces newline rest) ≡ Ok (q, pieces newline m)
-  at_last q true e h =
+  pub at_last : (q : Plan) (t : Taken) → t ≡ Last → Takes (take_line p n l) p q (Ok t) → read_lines p n (pieces newline rest) ≡ Ok (q, pieces newline m)
+  at_last q Last e h =
       turn ∙ (ap (λ r. go_on r p (pieces newline m) (λ q. read_lines q (n + 1) (pieces newline m))) h.0 ∙ ap (λ (x : Plan). Ok (x, pieces newline m)) (sym h.1))
-  at_last q false e h = let z : ◌≡◌ {A = ℕ} 0 1 = cc in absurd (omega arith)
+  at_last q More e h = cc
 
-  pub at_more : (q : Plan) (b : Bool) → b ≡ false → Takes (take_line p n l) p q (Ok b) → read_lines p n (pieces newline rest) ≡ read_lines q (n + 1) (pieces newline m)
-  at_more q false e h = turn ∙ ap (λ r. go_on r p (pieces newline m) (λ q. read_lines q (n + 1) (pieces newline m))) h
-  at_more q true e h = let z : ◌≡◌ {A = ℕ} 0 1 = cc in absurd (omega arith)
+  pub at_more : (q : Plan) (t : Taken) → t ≡ More → Takes (take_line p n l) p q (Ok t) → read_lines p n (pieces newline rest) ≡ read_lines q (n + 1) (pieces newline m)
+  at_more q More e h = turn ∙ ap (λ r. go_on r p (pieces newline m) (λ q. read_lines q (n + 1) (pieces newline m))) h
+  at_more q Last e h = cc
 
   pub at_fault : (q : Plan) (e : SequenceFault) → Takes (take_line p n l) p q (Err e) → read_lines p n (pieces newline rest) ≡ Err e
   at_fault q e h = turn ∙ ap (λ r. go_on r p (pieces newline m) (λ q. read_lines q (n + 1) (pieces newline m))) h.0

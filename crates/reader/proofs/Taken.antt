@@ -1,14 +1,5 @@
 -- What a draft answered, as what the line did.
-use Rattle.std.proofs.Common.{◌≡◌, ℕ, Bool, true, false, cond, eqb, List, length, IsErrAnd, Ok, Err, Result, sym, refl, ap, ◌∙◌, subst, arith}
-use Rattle.std.proofs.lemmas.Bool.{cond-true, cond-false, eq-eqb, ne_eqb}
-use Rattle.parts.specs.declared.part.Variable.{Variable}
-use Rattle.parts.specs.declared.part.Assignment.{Assignment}
-use Rattle.parts.specs.declared.part.Invariant.{Invariant}
-use Rattle.parts.specs.declared.part.Condition.{Condition}
-use Rattle.parts.specs.declared.part.Reset.{Reset}
-use Rattle.parts.specs.declared.part.Task.{Task as TaskPart}
-use Rattle.parts.specs.declared.part.Location.{Location}
-use Rattle.parts.specs.declared.part.Edge.{Edge as EdgePart}
+use Rattle.std.proofs.Common.{◌≡◌, ℕ, Bool, true, false, cond, List, IsErrAnd, Ok, Err, Result, sym, refl, ap, ◌∙◌, subst, arith}
 use Rattle.parts.specs.declared.part.Rule.{Rule}
 use Rattle.parts.specs.declared.part.Rule.TheVariants.{BadAutomaton, BadEnds}
 use Rattle.sequence.specs.Plan.{Plan, ends_fit}
@@ -18,18 +9,25 @@ use Rattle.sequence.specs.Model.{Adds}
 use Rattle.sequence.proofs.Sound.{Sound}
 use Rattle.lexical.specs.declared.fault.Place.{Place}
 use Rattle.lexical.specs.declared.fault.SequenceFault.{SequenceFault}
-use Rattle.lexical.specs.declared.fault.SequenceFault.TheVariants.{WrongAutomaton, WrongEdgeCount}
+use Rattle.lexical.specs.declared.fault.SequenceFault.TheVariants.{WrongAutomaton}
 use Rattle.lexical.specs.declared.key.Key.{Key}
-use Rattle.lexical.specs.declared.key.Key.TheVariants.{Var, Task, Set, Loc, Inv, Edge, Clk, Dif, Val, Zero, Edges}
+use Rattle.lexical.specs.declared.key.Key.TheVariants.{Var, Task, Set, Loc, Inv, Edge, Clk, Dif, Val, Zero}
 use Rattle.lexical.specs.Bytes.{pieces, comma}
 use Rattle.lexical.specs.Fields.{on}
 use Rattle.grammar.specs.Lines.{There, Fields, row, there}
-use Rattle.grammar.specs.Reading.{Step, more, done, variable_of, task_of, assignment_of, location_of, invariant_of, edge_of, clock_condition, difference_condition, variable_condition, with_assignment, take_fields, take_value}
+use Rattle.grammar.specs.Reading.{Step, more, allowed, room, variable_of, task_of, assignment_of, location_of, invariant_of, edge_of, clock_condition, difference_condition, variable_condition, with_assignment, take_fields, take_value}
 use Rattle.grammar.proofs.Parsing.{on_ok, row_back}
 use Rattle.grammar.proofs.Appending.{clock_fits, difference_fits, value_fits}
-use Rattle.lines.specs.Values.{reset_of, edge_count_of}
-use Rattle.reader.specs.Taking.{Takes, placed, add_assignment, TakesValue}
+use Rattle.lines.specs.Values.{part_of, reset_of}
+use Rattle.reader.specs.declared.take.Taken.{Taken}
+use Rattle.reader.specs.declared.take.Taken.TheVariants.{More}
+use Rattle.reader.specs.Taking.{Takes, add_assignment, TakesValue}
 use Rattle.reader.proofs.Accepted.{variable_accepted, task_accepted, set_accepted, location_accepted, invariant_accepted, edge_accepted, condition_accepted, reset_accepted}
+
+-- the part of a line that was read can break no rule but that of its automaton
+abbrev pub placed : Place → Result Unit Rule → Result Taken SequenceFault
+placed at (Ok _) = Ok More
+placed at (Err _) = Err (WrongAutomaton at)
 
 module _ (at : Place) (before after q : Plan) (rule : Rule) where
   -- the draft accepts the part if and only if the line is accepted
@@ -45,8 +43,8 @@ module _ (at : Place) (before after q : Plan) where
   by_part = by_answer at before after q BadAutomaton true
 
 -- a fault that is passed on
-pub passed_on : (p : Plan) (s : Result Step SequenceFault) (fault : SequenceFault) (r : Result Bool SequenceFault) → IsErrAnd r (λ e. e ≡ fault) → s ≡ Err fault → Takes s p p r
-passed_on p s fault (Ok b) h e = absurd h
+pub passed_on : (p : Plan) (s : Result Step SequenceFault) (fault : SequenceFault) (r : Result Taken SequenceFault) → IsErrAnd r (λ e. e ≡ fault) → s ≡ Err fault → Takes s p p r
+passed_on p s fault (Ok t) h e = absurd h
 passed_on p s fault (Err d) h e = (e ∙ ap Err (sym h), refl)
 
 -- ---- a value that was read into a part
@@ -85,87 +83,69 @@ module _ {X : Type 0} (p : Plan) (k : Key) (part : Fields k → X) (at : Place) 
   pub faulted : (e : SequenceFault) → Err e ≡ read → take_value k p at value ≡ Err e
   faulted e h = faulty e ((row (there p) k).parse at (pieces comma value)) (sym h)
 
-module _ (p : Plan) (at : Place) (value : List ℕ) (after : Plan) (a : Result Unit Rule) where
-  pub variable_taken : (v : Variable) → Ok v ≡ read p Var variable_of at value → Adds (add_variable p v) p after a → TakesValue Var p at value after (placed at a)
-  variable_taken v e h l r =
-      let i = read_into p Var variable_of at value v e in
-      let f = i.fields in
-      by_part at p after (with_variable p (variable_of f)) (add_variable p (variable_of f)) (take_value Var p at value) (variable_accepted p f l r i.good) i.does a
-      (subst (λ (x : Variable). Adds (add_variable p x) p after a) (sym i.is) h)
-
-  pub task_taken : (t : TaskPart) → Ok t ≡ read p Task task_of at value → Adds (add_task p t) p after a → TakesValue Task p at value after (placed at a)
-  task_taken t e h l r =
-      let i = read_into p Task task_of at value t e in
-      let f = i.fields in
-      by_part at p after (with_task p (task_of f)) (add_task p (task_of f)) (take_value Task p at value) (task_accepted p f l r i.good) i.does a
-      (subst (λ (x : TaskPart). Adds (add_task p x) p after a) (sym i.is) h)
-
-  pub set_taken : Sound p → (x : Assignment) → Ok x ≡ read p Set assignment_of at value → Adds (add_assignment p x) p after a → TakesValue Set p at value after (placed at a)
-  set_taken s x e h l r =
-      let i = read_into p Set assignment_of at value x e in
-      let f = i.fields in
-      by_part at p after (with_assignment (assignment_of f) p) (add_assignment p (assignment_of f)) (take_value Set p at value) (set_accepted p s f l r i.good) i.does a
-      (subst (λ (y : Assignment). Adds (add_assignment p y) p after a) (sym i.is) h)
-
-  pub location_taken : (x : Location) → Ok x ≡ read p Loc location_of at value → Adds (add_location p x) p after a → TakesValue Loc p at value after (placed at a)
-  location_taken x e h l r =
-      let i = read_into p Loc location_of at value x e in
-      let f = i.fields in
-      by_answer at p after (with_location p (location_of f)) BadAutomaton (next_automaton p f.0) (add_location p (location_of f)) (take_value Loc p at value) (location_accepted p f l r i.good) i.does a
-      (subst (λ (y : Location). Adds (add_location p y) p after a) (sym i.is) h)
-
-  pub edge_taken : (x : EdgePart) → Ok x ≡ read p Edge edge_of at value → Adds (add_edge p x) p after a → TakesValue Edge p at value after (placed at a)
-  edge_taken x e h l r =
-      let i = read_into p Edge edge_of at value x e in
-      let f = i.fields in
-      by_answer at p after (with_edge p (edge_of f)) BadEnds (ends_fit p.locations (edge_of f)) (add_edge p (edge_of f)) (take_value Edge p at value) (edge_accepted p f r i.good) i.does a
-      (subst (λ (y : EdgePart). Adds (add_edge p y) p after a) (sym i.is) h)
-
-  pub invariant_taken : (x : Invariant) → Ok x ≡ read p Inv invariant_of at value → Adds (add_invariant p x) p after a → TakesValue Inv p at value after (placed at a)
-  invariant_taken x e h l r =
-      let i = read_into p Inv invariant_of at value x e in
-      let f = i.fields in
-      by_part at p after (with_last_location (limited (invariant_of f)) p) (add_invariant p (invariant_of f)) (take_value Inv p at value) (invariant_accepted p f l r i.good) i.does a
-      (subst (λ (y : Invariant). Adds (add_invariant p y) p after a) (sym i.is) h)
-
-  pub clock_taken : Sound p → (x : Condition) → Ok x ≡ read p Clk clock_condition at value → Adds (add_condition p x) p after a → TakesValue Clk p at value after (placed at a)
-  clock_taken s x e h l r =
-      let i = read_into p Clk clock_condition at value x e in
-      let c = clock_condition i.fields in
-      by_part at p after (with_last_edge (guarded c) p) (add_condition p c) (take_value Clk p at value) (condition_accepted p c r (clock_fits p s i.fields i.good)) i.does a
-      (subst (λ (y : Condition). Adds (add_condition p y) p after a) (sym i.is) h)
-
-  pub difference_taken : Sound p → (x : Condition) → Ok x ≡ read p Dif difference_condition at value → Adds (add_condition p x) p after a → TakesValue Dif p at value after (placed at a)
-  difference_taken s x e h l r =
-      let i = read_into p Dif difference_condition at value x e in
-      let c = difference_condition i.fields in
-      by_part at p after (with_last_edge (guarded c) p) (add_condition p c) (take_value Dif p at value) (condition_accepted p c r (difference_fits p s i.fields i.good)) i.does a
-      (subst (λ (y : Condition). Adds (add_condition p y) p after a) (sym i.is) h)
-
-  pub value_taken : Sound p → (x : Condition) → Ok x ≡ read p Val variable_condition at value → Adds (add_condition p x) p after a → TakesValue Val p at value after (placed at a)
-  value_taken s x e h l r =
-      let i = read_into p Val variable_condition at value x e in
-      let c = variable_condition i.fields in
-      by_part at p after (with_last_edge (guarded c) p) (add_condition p c) (take_value Val p at value) (condition_accepted p c r (value_fits p s i.fields i.good)) i.does a
-      (subst (λ (y : Condition). Adds (add_condition p y) p after a) (sym i.is) h)
-
-  pub reset_taken : (x : Reset) → Ok x ≡ read p Zero reset_of at value → Adds (add_reset p x) p after a → TakesValue Zero p at value after (placed at a)
-  reset_taken x e h l r =
-      let i = read_into p Zero reset_of at value x e in
-      let f = i.fields in
-      by_part at p after (with_last_edge (resetting (reset_of f)) p) (add_reset p (reset_of f)) (take_value Zero p at value) (reset_accepted p f r i.good) i.does a
-      (subst (λ (y : Reset). Adds (add_reset p y) p after a) (sym i.is) h)
-
-module _ (p : Plan) (at : Place) (value : List ℕ) (n : ℕ) (e : Ok n ≡ read p Edges edge_count_of at value) where
-  counted : take_value Edges p at value ≡ cond (eqb n (length p.edges)) (Ok done) (Err (WrongEdgeCount at))
-  counted = let i = read_into p Edges edge_count_of at value n e in i.does ∙ ap (λ m. cond (eqb m (length p.edges)) (Ok done) (Err (WrongEdgeCount at))) i.is
-
-  pub counted_right : n ≡ length p.edges → take_value Edges p at value ≡ Ok done
-  counted_right h = counted ∙ cond-true _ _ _ (eq-eqb n (length p.edges) h)
-
-  pub counted_wrong : (n ≡ length p.edges → ⊥) → take_value Edges p at value ≡ Err (WrongEdgeCount at)
-  counted_wrong h = counted ∙ cond-false _ _ _ (ne_eqb n (length p.edges) h)
-
-module _ (p : Plan) (at : Place) (value : List ℕ) (after : Plan) (r : Result Bool SequenceFault) where
+module _ (p : Plan) (at : Place) (value : List ℕ) (after : Plan) (r : Result Taken SequenceFault) where
   pub by_kind : (k d : Key) → k ≡ d → TakesValue d p at value after r → TakesValue k p at value after r
   by_kind k d e h = subst (λ (x : Key). TakesValue x p at value after r) (sym e) h
+
+-- ---- a draft accepts the part of a line if and only if the line is accepted
+
+pub record AcceptsAt {X : Type 0} (p : Plan) (at : Place) (k : Key) (part : Fields k → X) (add : Plan → X → Result Plan Rule) (f : Fields k) : Type 0 where
+  pub fits : Bool
+  pub after : Plan
+  pub rule : Rule
+  pub adds : add p (part f) ≡ cond fits (Ok after) (Err rule)
+  pub takes : take_fields k p at f ≡ cond fits (Ok (more after)) (Err (WrongAutomaton at))
+
+pub record Accepts {X : Type 0} (p : Plan) (at : Place) (k : Key) (part : Fields k → X) (add : Plan → X → Result Plan Rule) : Type 0 where
+  pub fields : (f : Fields k) → allowed k p ≡ true → room k p ≡ true → (row (there p) k).good f ≡ true → AcceptsAt p at k part add f
+
+module _ (p : Plan) (at : Place) where
+  pub variable : Accepts p at Var variable_of add_variable
+  variable = record { fields = λ f h r g. record { fits = true; after = with_variable p (variable_of f); rule = BadAutomaton; adds = variable_accepted p f h r g; takes = refl } }
+
+  pub task : Accepts p at Task task_of add_task
+  task = record { fields = λ f h r g. record { fits = true; after = with_task p (task_of f); rule = BadAutomaton; adds = task_accepted p f h r g; takes = refl } }
+
+  pub location : Accepts p at Loc location_of add_location
+  location = record { fields = λ f h r g. record { fits = next_automaton p f.0; after = with_location p (location_of f); rule = BadAutomaton; adds = location_accepted p f h r g; takes = refl } }
+
+  pub invariant : Accepts p at Inv invariant_of add_invariant
+  invariant = record { fields = λ f h r g. record { fits = true; after = with_last_location (limited (invariant_of f)) p; rule = BadAutomaton; adds = invariant_accepted p f h r g; takes = refl } }
+
+  pub edge : Accepts p at Edge edge_of add_edge
+  edge = record { fields = λ f h r g. record { fits = ends_fit p.locations (edge_of f); after = with_edge p (edge_of f); rule = BadEnds; adds = edge_accepted p f r g; takes = refl } }
+
+  pub reset : Accepts p at Zero reset_of add_reset
+  reset = record { fields = λ f h r g. record { fits = true; after = with_last_edge (resetting (reset_of f)) p; rule = BadAutomaton; adds = reset_accepted p f r g; takes = refl } }
+
+  pub assignment : Sound p → Accepts p at Set assignment_of add_assignment
+  assignment s = record { fields = λ f h r g. record { fits = true; after = with_assignment (assignment_of f) p; rule = BadAutomaton; adds = set_accepted p s f h r g; takes = refl } }
+
+  pub clock : Sound p → Accepts p at Clk clock_condition add_condition
+  clock s = record { fields = λ f h r g. record { fits = true; after = with_last_edge (guarded (clock_condition f)) p; rule = BadAutomaton; adds = condition_accepted p (clock_condition f) r (clock_fits p s f g); takes = refl } }
+
+  pub difference : Sound p → Accepts p at Dif difference_condition add_condition
+  difference s = record { fields = λ f h r g. record { fits = true; after = with_last_edge (guarded (difference_condition f)) p; rule = BadAutomaton; adds = condition_accepted p (difference_condition f) r (difference_fits p s f g); takes = refl } }
+
+  pub value : Sound p → Accepts p at Val variable_condition add_condition
+  value s = record { fields = λ f h r g. record { fits = true; after = with_last_edge (guarded (variable_condition f)) p; rule = BadAutomaton; adds = condition_accepted p (variable_condition f) r (value_fits p s f g); takes = refl } }
+
+-- ---- what a line of a kind did
+
+module _ {X : Type 0} {p : Plan} {at : Place} {k : Key} {part : Fields k → X} {add : Plan → X → Result Plan Rule} (accepts : Accepts p at k part add) (value : List ℕ) {n : There} (same : n ≡ there p) {d : Key} (is : d ≡ k) where
+  -- its part was read, and the draft answered
+  pub taken : {x : X} → Ok x ≡ part_of n k part at value → {q : Plan} {a : Result Unit Rule} → Adds (add p x) p q a → {after : Plan} → after ≡ q → {b : Result Unit Rule} → b ≡ a → (r : Result Taken SequenceFault) → r ≡ placed at b → TakesValue d p at value after r
+  taken {x} h {q} {a} added {after} t {b} u r s =
+      by_kind p at value after r d k is (λ l m.
+      let i = read_into p k part at value x (at_there p k part at value n same (Ok x) h) in
+      let f = accepts.fields i.fields l m i.good in
+      let e : r ≡ placed at a = s ∙ ap (placed at) u in
+      let g : Takes (take_value k p at value) p q (placed at a) =
+      by_answer at p q f.after f.rule f.fits (add p (part i.fields)) (take_value k p at value) f.adds (i.does ∙ f.takes) a
+      (subst (λ (y : X). Adds (add p y) p q a) (sym i.is) added) in
+      subst (λ (y : Plan). Takes (take_value k p at value) p y r) (sym t) (subst (λ (y : Result Taken SequenceFault). Takes (take_value k p at value) p q y) (sym e) g))
+
+  -- its value has a fault
+  pub refused : {e : SequenceFault} → Err e ≡ part_of n k part at value → (r : Result Taken SequenceFault) → IsErrAnd r (λ x. x ≡ e) → TakesValue d p at value p r
+  refused {e} h r s =
+      by_kind p at value p r d k is (λ l m. passed_on p (take_value k p at value) e r s (faulted p k part at value e (at_there p k part at value n same (Err e) h)))

@@ -1,19 +1,17 @@
 -- From the counts and the lines to the whole text.
-use Rattle.std.proofs.Common.{◌≡◌, ℕ, ◌<◌, ◌≤◌, Bool, true, false, List, ◌++◌, length, Ok, Err, vec_items, sym, ap, ◌∙◌, arith}
-use Rattle.std.proofs.lemmas.List.{length-append, nil_from_length}
-use Rattle.std.proofs.lemmas.Bool.{cond-true, cond-false, lt-ltb, le-ltb}
+use Rattle.std.proofs.Common.{◌≡◌, ℕ, ◌≤◌, Bool, true, false, List, ◌++◌, length, Ok, Err, Result, refl, sym, ap, ◌∙◌, arith}
+use Rattle.std.specs.Result.{IsOk, MatchResult}
+use Rattle.std.proofs.lemmas.List.{length-append}
+use Rattle.std.proofs.lemmas.Bool.{cond-true, cond-false, le-ltb}
 use Rattle.parts.specs.declared.part.Counts.{Counts}
 use Rattle.parts.specs.declared.part.Rule.{Rule}
 use Rattle.parts.specs.Limits.{counts_fit}
 use Rattle.lexical.specs.declared.fault.SequenceFault.{SequenceFault}
-use Rattle.lexical.specs.declared.fault.SequenceFault.TheVariants.{TextTooLong}
 use Rattle.lexical.specs.Bytes.{pieces, join, newline}
 use Rattle.lexical.specs.Fields.{on}
 use Rattle.lexical.proofs.Parting.{join_pieces}
-use Rattle.sequence.specs.declared.memory.Memory.{Memory}
 use Rattle.sequence.specs.Plan.{Plan, complete}
 use Rattle.sequence.specs.Building.{begun, begin}
-use Rattle.sequence.specs.Memories.{RoomyAndEmpty}
 use Rattle.sequence.proofs.Sound.{sound_facts, begun_sound}
 use Rattle.grammar.specs.Lines.{text_of}
 use Rattle.grammar.specs.Writing.{count_items}
@@ -22,25 +20,15 @@ use Rattle.grammar.proofs.Narrow.{begun_widths}
 use Rattle.grammar.proofs.Reread.{rejoined, reads_on, counts_back, read_is_written}
 use Rattle.reader.specs.Outcomes.{Reads}
 
--- memory has nothing in it, and room
-pub roomy : (m : Memory) → RoomyAndEmpty m
-roomy m = record {
-  variables = (nil_from_length (vec_items m.variables) (omega (arith, m.variables.ok.0, m.empty.0)), m.room.0);
-  tasks = (nil_from_length (vec_items m.tasks) (omega (arith, m.tasks.ok.0, m.empty.1)), m.room.1);
-  locations = (nil_from_length (vec_items m.locations) (omega (arith, m.locations.ok.0, m.empty.2)), m.room.2);
-  edges = (nil_from_length (vec_items m.edges) (omega (arith, m.edges.ok.0, m.empty.3)), m.room.3);
-}
+-- a result that cannot be an error
+pub only_ok : {A E : Type 0} (P : A → Type 0) (Q : E → Type 0) (r : Result A E) → MatchResult r P Q → ((e : E) → Q e → ⊥) → IsOk r
+only_ok P Q (Ok x) h never = refl
+only_ok P Q (Err e) h never = absurd (never e h)
 
 module _ (t : List ℕ) where
-  pub too_long : longest_text < length t → read_text t ≡ Err TextTooLong
-  too_long h = cond-true _ _ _ (lt-ltb longest_text (length t) h)
-
   module _ (short : length t ≤ longest_text) where
     within : read_text t ≡ on (read_all (pieces newline t)) rejoined
     within = cond-false _ _ _ (le-ltb longest_text (length t) short)
-
-    pub bad_counts : (e : SequenceFault) → read_counts (pieces newline t) ≡ Err e → read_text t ≡ Err e
-    bad_counts e h = within ∙ ap (λ r. on (on r (λ (c : Counts × List (List ℕ)). read_lines (begun c.0) 6 c.1)) rejoined) h
 
     module _ (c : Counts) (l : List ℕ) (h : read_counts (pieces newline t) ≡ Ok (c, pieces newline l)) where
       counts_read : (join newline (pieces newline t) ≡ text_of (count_items c) ++ join newline (pieces newline l)) × (counts_fit c ≡ true)

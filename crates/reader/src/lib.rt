@@ -37,25 +37,22 @@ pub fn read_sequence<'a>(memory: Memory, text: &'a [u8]) -> Result<(Sequence, &'
             memory,
         });
     }
+    // matches, since a refusal takes the memory and what was read needs it too
     let (counts, lines) = match read_counts(text) {
-        Err(fault) => return Err(Refusal { fault, memory }),
         Ok(read) => read,
+        Err(fault) => return Err(Refusal { fault, memory }),
     };
     // counts that were read break no limit
-    let Ok(mut draft) = Draft::begin(memory, counts) else {
-        unreachable()
-    };
-    match read_lines(&mut draft, lines) {
-        Err(fault) => Err(Refusal {
-            fault,
-            memory: draft.into_memory(),
-        }),
-        Ok(rest) => {
-            // the last line is allowed only once every automaton has a location
-            let Ok(sequence) = draft.finish() else {
-                unreachable()
-            };
-            Ok((sequence, rest))
+    let mut draft = Draft::begin(memory, counts).unwrap();
+    let rest = match read_lines(&mut draft, lines) {
+        Ok(rest) => rest,
+        Err(fault) => {
+            return Err(Refusal {
+                fault,
+                memory: draft.into_memory(),
+            });
         }
-    }
+    };
+    // the last line is allowed only once every automaton has a location
+    Ok((draft.finish().unwrap(), rest))
 }

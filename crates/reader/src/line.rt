@@ -4,22 +4,15 @@ ghost use Rattle.lexical.specs.Keys.{key_named};
 ghost use Rattle.lexical.specs.Tokens.{KeyAt, token_bytes};
 ghost use Rattle.sequence.specs.Model.{plan_of};
 ghost use Rattle.grammar.specs.Reading.{take_key, take_line};
-ghost use Rattle.reader.specs.Taking.{Takes, key_fault};
+ghost use Rattle.reader.specs.Taking.{Takes};
 
 use crate::stages::{has_room, is_allowed, stage};
-use crate::take::take_value;
+use crate::take::{Taken, take_value};
 use lexical::fault::{LineFault, Place, SequenceFault};
 use lexical::key::key_named;
 use lexical::token::Token;
 use lines::counts::{key_and_value, value_place};
 use sequence::draft::Draft;
-
-// The fault of a key that is not allowed in a line.
-fn not_allowed(line: usize) -> SequenceFault
-    ensures { result ≡ key_fault line }
-{
-    SequenceFault::Line(LineFault::KeyNotAllowed(Place { line, column: 1 }))
-}
 
 // A line with its key and its value.
 fn take_key(
@@ -27,32 +20,31 @@ fn take_key(
     number: usize,
     key: Token,
     value: &[u8],
-) -> Result<bool, SequenceFault>
+) -> Result<Taken, SequenceFault>
     requires key_at { KeyAt 1 key }
     requires value_len_bound { length (token_bytes key) + length value.now ≤ 40960 }
     ensures { Takes (take_key (key_named (token_bytes key.entry)) (plan_of draft.old) number (token_bytes key.entry, value.now)) (plan_of draft.old) (plan_of draft.new) result }
 {
-    let Some(kind) = key_named(key.bytes()) else {
-        return Err(not_allowed(number));
+    let at = Place {
+        line: number,
+        column: 1,
     };
+    let kind = key_named(key.bytes()).ok_or(LineFault::KeyNotAllowed(at))?;
     if !is_allowed(kind, stage(draft), draft.is_complete()) {
-        return Err(not_allowed(number));
+        return Err(LineFault::KeyNotAllowed(at).into());
     }
     if !has_room(draft, kind) {
-        return Err(SequenceFault::TooManyLines(Place {
-            line: number,
-            column: 1,
-        }));
+        return Err(SequenceFault::TooManyLines(at));
     }
     take_value(draft, kind, value_place(key, number), value)
 }
 
-// A line, with true for the last one.
+// A line.
 pub(crate) fn take_line(
     draft: &mut Draft,
     number: usize,
     line: &[u8],
-) -> Result<bool, SequenceFault>
+) -> Result<Taken, SequenceFault>
     requires { length line.now ≤ 40960 }
     ensures { Takes (take_line (plan_of draft.old) number line.now) (plan_of draft.old) (plan_of draft.new) result }
 {

@@ -5,6 +5,7 @@ ghost use Rattle.sequence.specs.Model.{plan_of};
 ghost use Rattle.grammar.specs.Reading.{read_lines};
 
 use crate::line::take_line;
+use crate::take::Taken;
 use lexical::bytes::cut_at;
 use lexical::fault::{LineFault, Place, SequenceFault};
 use sequence::draft::Draft;
@@ -15,14 +16,16 @@ pub(crate) fn read_lines<'a>(draft: &mut Draft, text: &'a [u8]) -> Result<&'a [u
     ensures { MatchResult result (λ rest. read_lines (plan_of draft.old) 6 (pieces newline text.now) ≡ Ok (plan_of draft.new, pieces newline rest.now)) (λ fault. read_lines (plan_of draft.old) 6 (pieces newline text.now) ≡ Err fault) }
 {
     let mut rest = text;
+    // counted by hand: the fault behind the loop names the number of the line that is missing
     let mut number = 6usize;
     while let Some((line, more)) = cut_at(rest, b'\n') {
-        let last = take_line(draft, number, line)?;
-        if last {
-            return Ok(more);
+        match take_line(draft, number, line)? {
+            Taken::Last => return Ok(more),
+            Taken::More => {
+                rest = more;
+                number += 1;
+            }
         }
-        rest = more;
-        number += 1;
     }
     Err(SequenceFault::Line(LineFault::Malformed(Place {
         line: number,

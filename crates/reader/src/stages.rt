@@ -2,11 +2,11 @@
 ghost use Rattle.std.specs.Prelude.{◌≡◌};
 ghost use Rattle.sequence.specs.Model.{plan_of};
 ghost use Rattle.sequence.specs.Growing.{has_room};
-ghost use Rattle.grammar.specs.Reading.{edge_stage, stage_of, stage_rank, allowed_at, room_of, set_room, room};
+ghost use Rattle.grammar.specs.Reading.{edge_stage, stage_of, stage_rank, allowed_at, set_room, room};
 
 use grammar::stage::Stage;
 use lexical::key::Key;
-use parts::part::{Edge, Location, Task};
+use parts::part::Edge;
 use sequence::draft::Draft;
 use sequence::group::{last, used_places};
 
@@ -14,16 +14,10 @@ use sequence::group::{last, used_places};
 fn edge_stage(edge: Option<Edge>) -> Stage
     ensures { result ≡ edge_stage edge }
 {
-    let Some(edge) = edge else {
-        return Stage::Guard;
-    };
-    if used_places(&edge.assignments) != 0 {
-        return Stage::Assignments;
-    }
-    if used_places(&edge.resets) != 0 {
-        Stage::Resets
-    } else {
-        Stage::Guard
+    match &edge {
+        Some(edge) if used_places(&edge.assignments) != 0 => Stage::Assignments,
+        Some(edge) if used_places(&edge.resets) != 0 => Stage::Resets,
+        _ => Stage::Guard,
     }
 }
 
@@ -31,30 +25,14 @@ fn edge_stage(edge: Option<Edge>) -> Stage
 pub(crate) fn stage(draft: &Draft) -> Stage
     ensures { result ≡ stage_of (plan_of draft.now) }
 {
-    if draft.edges().len() != 0 {
-        return edge_stage(last(draft.edges()));
-    }
-    if draft.locations().len() != 0 {
-        return Stage::Locations;
-    }
-    if draft.tasks().len() != 0 {
+    if !draft.edges().is_empty() {
+        edge_stage(last(draft.edges()))
+    } else if !draft.locations().is_empty() {
+        Stage::Locations
+    } else if !draft.tasks().is_empty() {
         Stage::Tasks
     } else {
         Stage::Variables
-    }
-}
-
-// The stages in their order.
-fn rank(stage: Stage) -> u8
-    ensures { result ≡ stage_rank stage }
-{
-    match stage {
-        Stage::Variables => 0,
-        Stage::Tasks => 1,
-        Stage::Locations => 2,
-        Stage::Guard => 3,
-        Stage::Resets => 4,
-        Stage::Assignments => 5,
     }
 }
 
@@ -62,78 +40,34 @@ fn rank(stage: Stage) -> u8
 pub(crate) fn is_allowed(key: Key, stage: Stage, whole: bool) -> bool
     ensures { result ≡ allowed_at key (stage_rank stage) whole }
 {
-    let rank = rank(stage);
     match key {
         Key::Form | Key::Autos | Key::Clocks | Key::Triggers | Key::Chans => false,
-        Key::Var => rank == 0,
-        Key::Task => rank <= 1,
-        Key::Set => rank == 1 || 3 <= rank,
-        Key::Loc => rank <= 2,
-        Key::Inv => rank == 2,
-        Key::Edge | Key::Edges => 2 <= rank && whole,
-        Key::Clk | Key::Dif | Key::Val => rank == 3,
-        Key::Zero => rank == 3 || rank == 4,
+        Key::Var => stage == Stage::Variables,
+        Key::Task => stage <= Stage::Tasks,
+        Key::Set => stage == Stage::Tasks || stage >= Stage::Guard,
+        Key::Loc => stage <= Stage::Locations,
+        Key::Inv => stage == Stage::Locations,
+        Key::Edge | Key::Edges => stage >= Stage::Locations && whole,
+        Key::Clk | Key::Dif | Key::Val => stage == Stage::Guard,
+        Key::Zero => stage == Stage::Guard || stage == Stage::Resets,
     }
 }
 
-// Whether a task has room for an assignment more.
-fn task_has_room(task: Option<Task>) -> bool
-    ensures { result ≡ room_of (λ t. has_room 4 t.assignments) task }
+// Whether a group has a free place.
+fn has_room_in<T: Copy, const N: usize>(group: &[Option<T>; N]) -> bool
+    ensures { result ≡ has_room N group.now }
 {
-    match task {
-        None => false,
-        Some(task) => used_places(&task.assignments) < 4,
-    }
-}
-
-// Whether a location has room for an invariant more.
-fn location_has_room(location: Option<Location>) -> bool
-    ensures { result ≡ room_of (λ l. has_room 2 l.invariants) location }
-{
-    match location {
-        None => false,
-        Some(location) => used_places(&location.invariants) < 2,
-    }
-}
-
-// Whether an edge has room for a condition more.
-fn guard_has_room(edge: Option<Edge>) -> bool
-    ensures { result ≡ room_of (λ e. has_room 4 e.guard) edge }
-{
-    match edge {
-        None => false,
-        Some(edge) => used_places(&edge.guard) < 4,
-    }
-}
-
-// Whether an edge has room for a clock more to zero.
-fn resets_have_room(edge: Option<Edge>) -> bool
-    ensures { result ≡ room_of (λ e. has_room 4 e.resets) edge }
-{
-    match edge {
-        None => false,
-        Some(edge) => used_places(&edge.resets) < 4,
-    }
-}
-
-// Whether an edge has room for an assignment more.
-fn edge_has_room(edge: Option<Edge>) -> bool
-    ensures { result ≡ room_of (λ e. has_room 4 e.assignments) edge }
-{
-    match edge {
-        None => false,
-        Some(edge) => used_places(&edge.assignments) < 4,
-    }
+    used_places(group) < N
 }
 
 // Whether the last task, or the last edge where there is one, has room for an assignment more.
 fn set_has_room(draft: &Draft) -> bool
     ensures { result ≡ set_room (plan_of draft.now) }
 {
-    if draft.edges().len() == 0 {
-        task_has_room(last(draft.tasks()))
+    if draft.edges().is_empty() {
+        last(draft.tasks()).is_some_and(|task| has_room_in(&task.assignments))
     } else {
-        edge_has_room(last(draft.edges()))
+        last(draft.edges()).is_some_and(|edge| has_room_in(&edge.assignments))
     }
 }
 
@@ -147,9 +81,13 @@ pub(crate) fn has_room(draft: &Draft, key: Key) -> bool
         Key::Task => draft.tasks().len() < 16,
         Key::Set => set_has_room(draft),
         Key::Loc => draft.locations().len() < 64,
-        Key::Inv => location_has_room(last(draft.locations())),
+        Key::Inv => {
+            last(draft.locations()).is_some_and(|location| has_room_in(&location.invariants))
+        }
         Key::Edge => draft.edges().len() < 128,
-        Key::Clk | Key::Dif | Key::Val => guard_has_room(last(draft.edges())),
-        Key::Zero => resets_have_room(last(draft.edges())),
+        Key::Clk | Key::Dif | Key::Val => {
+            last(draft.edges()).is_some_and(|edge| has_room_in(&edge.guard))
+        }
+        Key::Zero => last(draft.edges()).is_some_and(|edge| has_room_in(&edge.resets)),
     }
 }

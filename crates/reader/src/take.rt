@@ -4,7 +4,7 @@ ghost use Rattle.lexical.specs.declared.key.Key.TheVariants as kind;
 ghost use Rattle.sequence.specs.Model.{plan_of, Adds};
 ghost use Rattle.grammar.specs.Lines.{there};
 ghost use Rattle.lines.specs.Values.{there_of};
-ghost use Rattle.reader.specs.Taking.{TakesValue, add_assignment, placed};
+ghost use Rattle.reader.specs.Taking.{TakesValue, add_assignment};
 
 use lexical::fault::{LineFault, Place, SequenceFault};
 use lexical::key::Key;
@@ -16,6 +16,13 @@ use lines::task::task_line;
 use lines::variable::{assignment_line, variable_line};
 use parts::part::{Assignment, Rule};
 use sequence::draft::Draft;
+
+// A line was taken: more lines follow, or it was the last.
+#[derive(Clone, Copy)]
+pub(crate) enum Taken {
+    More,
+    Last,
+}
 
 // How many there are of what a line may refer to.
 fn present(draft: &Draft) -> Present
@@ -33,133 +40,26 @@ fn present(draft: &Draft) -> Present
     }
 }
 
-// The part of a line that was read can break no rule but that of its automaton.
-fn placed(answer: Result<(), Rule>, at: Place) -> Result<bool, SequenceFault>
-    ensures { result ≡ placed at answer }
-{
-    match answer {
-        Ok(()) => Ok(false),
-        Err(_) => Err(SequenceFault::WrongAutomaton(at)),
-    }
-}
-
 // An assignment goes to the last task, or to the last edge where there is one.
 fn add_assignment(draft: &mut Draft, assignment: Assignment) -> Result<(), Rule>
     ensures { Adds (add_assignment (plan_of draft.old) assignment) (plan_of draft.old) (plan_of draft.new) result }
 {
-    if draft.edges().len() == 0 {
+    if draft.edges().is_empty() {
         draft.add_task_assignment(assignment)
     } else {
         draft.add_edge_assignment(assignment)
     }
 }
 
-// A variable.
-fn take_variable(draft: &mut Draft, at: Place, value: &[u8]) -> Result<bool, SequenceFault>
-    requires { at.column + length value.now < 2 ^ 64 }
-    ensures { TakesValue kind.Var (plan_of draft.old) at value.now (plan_of draft.new) result }
-{
-    let variable = variable_line(value, at)?;
-    placed(draft.add_variable(variable), at)
-}
-
-// A task.
-fn take_task(draft: &mut Draft, at: Place, value: &[u8]) -> Result<bool, SequenceFault>
-    requires { at.column + length value.now < 2 ^ 64 }
-    ensures { TakesValue kind.Task (plan_of draft.old) at value.now (plan_of draft.new) result }
-{
-    let task = task_line(value, at)?;
-    placed(draft.add_task(task), at)
-}
-
-// An assignment.
-fn take_assignment(draft: &mut Draft, at: Place, value: &[u8]) -> Result<bool, SequenceFault>
-    requires { at.column + length value.now < 2 ^ 64 }
-    ensures { TakesValue kind.Set (plan_of draft.old) at value.now (plan_of draft.new) result }
-{
-    let assignment = assignment_line(value, at, present(draft))?;
-    placed(add_assignment(draft, assignment), at)
-}
-
-// A location.
-fn take_location(draft: &mut Draft, at: Place, value: &[u8]) -> Result<bool, SequenceFault>
-    requires { at.column + length value.now < 2 ^ 64 }
-    ensures { TakesValue kind.Loc (plan_of draft.old) at value.now (plan_of draft.new) result }
-{
-    let location = location_line(value, at, present(draft))?;
-    placed(draft.add_location(location), at)
-}
-
-// An invariant.
-fn take_invariant(draft: &mut Draft, at: Place, value: &[u8]) -> Result<bool, SequenceFault>
-    requires { at.column + length value.now < 2 ^ 64 }
-    ensures { TakesValue kind.Inv (plan_of draft.old) at value.now (plan_of draft.new) result }
-{
-    let invariant = invariant_line(value, at, present(draft))?;
-    placed(draft.add_invariant(invariant), at)
-}
-
-// An edge.
-fn take_edge(draft: &mut Draft, at: Place, value: &[u8]) -> Result<bool, SequenceFault>
-    requires { at.column + length value.now < 2 ^ 64 }
-    ensures { TakesValue kind.Edge (plan_of draft.old) at value.now (plan_of draft.new) result }
-{
-    let edge = edge_line(value, at, present(draft))?;
-    placed(draft.add_edge(edge), at)
-}
-
-// A condition on a clock.
-fn take_clock_condition(draft: &mut Draft, at: Place, value: &[u8]) -> Result<bool, SequenceFault>
-    requires { at.column + length value.now < 2 ^ 64 }
-    ensures { TakesValue kind.Clk (plan_of draft.old) at value.now (plan_of draft.new) result }
-{
-    let condition = clock_line(value, at, present(draft))?;
-    placed(draft.add_condition(condition), at)
-}
-
-// A condition on the difference of two clocks.
-fn take_difference_condition(
-    draft: &mut Draft,
-    at: Place,
-    value: &[u8],
-) -> Result<bool, SequenceFault>
-    requires { at.column + length value.now < 2 ^ 64 }
-    ensures { TakesValue kind.Dif (plan_of draft.old) at value.now (plan_of draft.new) result }
-{
-    let condition = difference_line(value, at, present(draft))?;
-    placed(draft.add_condition(condition), at)
-}
-
-// A condition on a variable.
-fn take_variable_condition(
-    draft: &mut Draft,
-    at: Place,
-    value: &[u8],
-) -> Result<bool, SequenceFault>
-    requires { at.column + length value.now < 2 ^ 64 }
-    ensures { TakesValue kind.Val (plan_of draft.old) at value.now (plan_of draft.new) result }
-{
-    let condition = value_line(value, at, present(draft))?;
-    placed(draft.add_condition(condition), at)
-}
-
-// A clock to zero.
-fn take_reset(draft: &mut Draft, at: Place, value: &[u8]) -> Result<bool, SequenceFault>
-    ensures { TakesValue kind.Zero (plan_of draft.old) at value.now (plan_of draft.new) result }
-{
-    let reset = reset_line(value, at, present(draft))?;
-    placed(draft.add_reset(reset), at)
-}
-
 // The last line says how many edges there are.
-fn take_edge_count(draft: &Draft, at: Place, value: &[u8]) -> Result<bool, SequenceFault>
+fn take_edge_count(draft: &Draft, at: Place, value: &[u8]) -> Result<Taken, SequenceFault>
     ensures { TakesValue kind.Edges (plan_of draft.now) at value.now (plan_of draft.now) result }
 {
     let count = edge_count_line(value, at)?;
     if count as usize != draft.edges().len() {
         return Err(SequenceFault::WrongEdgeCount(at));
     }
-    Ok(true)
+    Ok(Taken::Last)
 }
 
 // The value of a line of a kind.
@@ -168,25 +68,30 @@ pub(crate) fn take_value(
     key: Key,
     at: Place,
     value: &[u8],
-) -> Result<bool, SequenceFault>
+) -> Result<Taken, SequenceFault>
     requires { at.column + length value.now < 2 ^ 64 }
     ensures { TakesValue key (plan_of draft.old) at value.now (plan_of draft.new) result }
 {
-    match key {
+    let present = present(draft);
+    let added = match key {
         // never allowed behind the counts
-        Key::Form | Key::Autos | Key::Clocks | Key::Triggers | Key::Chans => Err(
-            SequenceFault::Line(LineFault::KeyNotAllowed(at)),
-        ),
-        Key::Var => take_variable(draft, at, value),
-        Key::Task => take_task(draft, at, value),
-        Key::Set => take_assignment(draft, at, value),
-        Key::Loc => take_location(draft, at, value),
-        Key::Inv => take_invariant(draft, at, value),
-        Key::Edge => take_edge(draft, at, value),
-        Key::Clk => take_clock_condition(draft, at, value),
-        Key::Dif => take_difference_condition(draft, at, value),
-        Key::Val => take_variable_condition(draft, at, value),
-        Key::Zero => take_reset(draft, at, value),
-        Key::Edges => take_edge_count(draft, at, value),
-    }
+        Key::Form | Key::Autos | Key::Clocks | Key::Triggers | Key::Chans => {
+            return Err(LineFault::KeyNotAllowed(at).into());
+        }
+        Key::Var => draft.add_variable(variable_line(value, at)?),
+        Key::Task => draft.add_task(task_line(value, at)?),
+        Key::Set => add_assignment(draft, assignment_line(value, at, present)?),
+        Key::Loc => draft.add_location(location_line(value, at, present)?),
+        Key::Inv => draft.add_invariant(invariant_line(value, at, present)?),
+        Key::Edge => draft.add_edge(edge_line(value, at, present)?),
+        Key::Clk => draft.add_condition(clock_line(value, at, present)?),
+        Key::Dif => draft.add_condition(difference_line(value, at, present)?),
+        Key::Val => draft.add_condition(value_line(value, at, present)?),
+        Key::Zero => draft.add_reset(reset_line(value, at, present)?),
+        Key::Edges => return take_edge_count(draft, at, value),
+    };
+    // the part of a line that was read can break no rule but that of its automaton
+    added
+        .map(|()| Taken::More)
+        .map_err(|_| SequenceFault::WrongAutomaton(at))
 }

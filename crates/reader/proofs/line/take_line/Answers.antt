@@ -5,9 +5,9 @@ use Rattle.lexical.specs.Tokens.{token_bytes}
 use Rattle.grammar.proofs.Accepting.{keyed_back}
 use Rattle.reader.proofs.line.take_line.Goals as goal
 
-pub take_key-requires : goal.take_key-requires
-take_key-requires c =
+pub take_key-requires-clause-value_len_bound : goal.take_key-requires-clause-value_len_bound
+take_key-requires-clause-value_len_bound c =
     let k = token_bytes c.in_ok-key.key in
     let v = c.in_ok-key.value.now in
     let e = keyed_back c.args.number c.args.line.now (k, v) c.in_ok-key.ensures.parted in
-    record { key_at = c.in_ok-key.ensures.keyed; value_len_bound = omega (arith, ap length e, length-append k (equals ∷ v), c.requires) }
+    omega (arith, ap length e, length-append k (equals ∷ v), c.requires)
