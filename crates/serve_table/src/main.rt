@@ -35,7 +35,7 @@ impl fmt::Display for Fault {
     }
 }
 
-// A row within the limits, or the first limit that it breaks.
+// A row within the limits, or the first limit that it breaks. The five numbers meet nowhere else, so they have no type of their own.
 fn checked_row(
     last: u32,
     release: u32,
@@ -223,6 +223,7 @@ struct Plan {
 }
 
 // Why the input gives no plan: the first line that cannot be used, or a failed read, or a want of memory.
+// `merge_triggers` has the like over its own faults: a crate for both would be longer.
 #[derive(Drop)]
 enum InputError {
     Bad(usize, Fault),

@@ -89,6 +89,7 @@ fn add_parts(draft: &mut Draft) -> Result<(), Rule> {
     })
 }
 
+// The texts of the parts are this program's own, one each: plain functions are shorter than a type for each text.
 fn print_assignment(rt: &HostRuntime, assignment: Assignment) -> io::Result<()> {
     let Assignment {
         target,

@@ -10,7 +10,7 @@ use sequence::whole::Sequence;
 use std::alloc::AllocError;
 use writer::write_sequence;
 
-// What a hexadecimal digit says; any other byte counts as 0.
+// What a hexadecimal digit says; any other byte counts as 0. The library's `to_digit` takes capital letters too.
 fn digit(b: u8) -> u8
     ensures { result < 16 }
 {
