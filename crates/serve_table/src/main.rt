@@ -286,12 +286,12 @@ fn read_line(
 ) -> anyhow::Result<Result<u32, Fault>> {
     if count == 1 {
         return Ok(match line.strip_prefix("order=") {
-            Some(word) => match OrderName::from_word(word.as_bytes()) {
-                Some(name) => {
+            Some(word) => match OrderName::try_from(word.as_bytes()) {
+                Ok(name) => {
                     plan.policy.name = name;
                     Ok(last)
                 }
-                None => Err(Fault::Order),
+                Err(_) => Err(Fault::Order),
             },
             None => Err(Fault::Order),
         });
