@@ -1,7 +1,7 @@
 // Examples of orders and of the ready queue.
 #![tactic(auto)]
 
-use jobs::job::{Job, JobKey, OrderName, Policy};
+use jobs::job::{Job, JobKey, OrderName, Policy, UnknownOrder};
 use jobs::{Ed, Fc, Fp, Hold, Order};
 use precedence::{Keyed, Precedence};
 use ready_queue::queue::{QueueFull, ReadyQueue};
@@ -121,11 +121,11 @@ mod tests {
 
     #[test]
     fn words_of_orders(rt: HostRuntime) {
-        assert_eq!(rt; OrderName::from_word(b"fp"), Some(OrderName::Fp));
-        assert_eq!(rt; OrderName::from_word(b"ed"), Some(OrderName::Ed));
-        assert_eq!(rt; OrderName::from_word(b"fc"), Some(OrderName::Fc));
-        assert_eq!(rt; OrderName::from_word(b"f"), None);
-        assert_eq!(rt; OrderName::from_word(b"fpp"), None);
+        assert_eq!(rt; OrderName::try_from(b"fp".as_slice()), Ok(OrderName::Fp));
+        assert_eq!(rt; OrderName::try_from(b"ed".as_slice()), Ok(OrderName::Ed));
+        assert_eq!(rt; OrderName::try_from(b"fc".as_slice()), Ok(OrderName::Fc));
+        assert_eq!(rt; OrderName::try_from(b"f".as_slice()), Err(UnknownOrder));
+        assert_eq!(rt; OrderName::try_from(b"fpp".as_slice()), Err(UnknownOrder));
         assert_eq!(rt; OrderName::Ed.word(), "ed");
         let held = Policy {
             name: OrderName::Fp,

@@ -238,7 +238,7 @@ impl<E: Error> From<E> for InputError {
 
 fn read_order(line: &str) -> Result<OrderName, Fault> {
     let word = line.strip_prefix("order=").ok_or(Fault::Order)?;
-    OrderName::from_word(word.as_bytes()).ok_or(Fault::Order)
+    OrderName::try_from(word.as_bytes()).map_err(|_| Fault::Order)
 }
 
 fn read_hold(line: &str) -> Result<bool, Fault> {
