@@ -1,6 +1,6 @@
 -- From the counts and the lines to the whole text.
-use Rattle.std.proofs.Common.{◌≡◌, ℕ, ◌<◌, ◌≤◌, Bool, true, false, List, ◌++◌, length, Ok, Err, vec_items, sym, ap, ◌∙◌, arith}
-use Rattle.std.proofs.lemmas.List.{length-append, nil_from_length}
+use Rattle.std.proofs.Common.{◌≡◌, ℕ, ◌<◌, ◌≤◌, Bool, true, false, List, ◌++◌, length, Ok, Err, sym, ap, ◌∙◌, arith}
+use Rattle.std.proofs.lemmas.List.{length-append}
 use Rattle.std.proofs.lemmas.Bool.{cond-true, cond-false, lt-ltb, le-ltb}
 use Rattle.parts.specs.declared.part.Counts.{Counts}
 use Rattle.parts.specs.declared.part.Rule.{Rule}
@@ -25,10 +25,10 @@ use Rattle.reader.specs.Outcomes.{Reads}
 -- memory has nothing in it, and room
 pub roomy : (m : Memory) → RoomyAndEmpty m
 roomy m = record {
-  variables = (nil_from_length (vec_items m.variables) (omega (arith, m.variables.ok.0, m.empty.0)), m.room.0);
-  tasks = (nil_from_length (vec_items m.tasks) (omega (arith, m.tasks.ok.0, m.empty.1)), m.room.1);
-  locations = (nil_from_length (vec_items m.locations) (omega (arith, m.locations.ok.0, m.empty.2)), m.room.2);
-  edges = (nil_from_length (vec_items m.edges) (omega (arith, m.edges.ok.0, m.empty.3)), m.room.3);
+  variables = (m.empty.variables, m.lists.room.0);
+  tasks = (m.empty.tasks, m.lists.room.1);
+  locations = (m.empty.locations, m.lists.room.2);
+  edges = (m.empty.edges, m.lists.room.3);
 }
 
 module _ (t : List ℕ) where
