@@ -3,7 +3,7 @@
 
 use sources::table::Table;
 use sources::tray::Tray;
-use sources::trigger::{PutFault, TableFault, Trigger};
+use sources::trigger::{PutFault, Trigger};
 use sources::{Pair, Source};
 use std::error::Error;
 use std::{fmt, io};
@@ -25,22 +25,8 @@ impl fmt::Display for Fault {
             Fault::Fields => write!(f, "expected two fields: tick,number"),
             Fault::Tick => write!(f, "the tick is not a number"),
             Fault::Number => write!(f, "the number is not one from 0 to 255"),
-            Fault::Put(fault) => write!(f, "{}, {}", fault.number(), put_text(fault)),
+            Fault::Put(fault) => write!(f, "{}, {}", fault.number(), fault),
         }
-    }
-}
-
-fn put_text(fault: PutFault) -> &'static str {
-    match fault {
-        PutFault::TickOver => "the tick is over 1000000000",
-        PutFault::Full => "the tray holds 32 triggers",
-    }
-}
-
-fn table_text(fault: TableFault) -> &'static str {
-    match fault {
-        TableFault::TickOver => "a tick is over 1000000000",
-        TableFault::TickFalls => "a tick is smaller than the one before it",
     }
 }
 
@@ -126,7 +112,7 @@ fn print_triggers(rt: &HostRuntime, triggers: Triggers) -> io::Result<()> {
     let rows = triggers.rows.as_slice();
     match Table::check(rows) {
         Ok(()) => print_merged(rt, &mut Pair::new(Table::new(rows), triggers.tray)),
-        Err(fault) => println!(rt; "refused: table: {}, {}", fault.number(), table_text(fault)),
+        Err(fault) => println!(rt; "refused: table: {}, {}", fault.number(), fault),
     }
 }
 
