@@ -14,8 +14,8 @@ pub fn compare(relation: Relation, x: i64, y: i64) -> bool
         Relation::Lt => x < y,
         Relation::Le => x <= y,
         Relation::Eq => x == y,
-        Relation::Ge => y <= x,
-        Relation::Gt => y < x,
+        Relation::Ge => x >= y,
+        Relation::Gt => x > y,
     }
 }
 

@@ -76,7 +76,7 @@ impl Valuation<'_> {
                 k,
             ),
             // both clocks go on together, and a variable stays as it is
-            Condition::Difference(_, _, _, _) | Condition::Variable(_, _, _) => {
+            Condition::Difference(..) | Condition::Variable(..) => {
                 all_or_none(self.condition_holds(condition, LAST_TICK))
             }
         }

@@ -1,8 +1,7 @@
 // Examples of guards, the search, rows and strides.
 #![tactic(auto)]
 
-use guards::at_tick::guard_holds;
-use guards::over_ticks::first_tick;
+use guards::valuation::Valuation;
 use jobs::Fp;
 use jobs::job::{Job, JobKey};
 use parts::part::{Assignment, Condition, Edge, Invariant, Label, Location, Relation, Variable};
@@ -28,6 +27,14 @@ fn clock(relation: Relation, k: u32) -> [Option<Condition>; 4] {
 // A guard on clock 0 less clock 1.
 fn apart(relation: Relation, k: i32) -> [Option<Condition>; 4] {
     when(Condition::Difference(0, 1, relation, k))
+}
+
+// Clocks by their last zeroings, and no variable.
+fn clocks(zeroed: &[u32]) -> Valuation<'_> {
+    Valuation {
+        zeroed,
+        values: &[],
+    }
 }
 
 // An edge from a location to itself.
@@ -84,8 +91,7 @@ fn foremost(edges: &[Edge; 4], present: bool) -> Option<(u8, Option<u8>)> {
         edges,
         locations: &locations,
         places: &[0, 1, 2],
-        zeroed: &[0],
-        values: &[],
+        valuation: clocks(&[0]),
         present: &[present],
         now: 0,
     };
@@ -103,8 +109,7 @@ fn stride<'a>(
         edges,
         locations,
         places: &[0, 1, 2],
-        zeroed: &[2],
-        values: &[],
+        valuation: clocks(&[2]),
         present: &[false],
         now: 4,
     };
@@ -161,48 +166,66 @@ mod tests {
 
     #[test]
     fn guards_behind_a_zeroing(rt: HostRuntime) {
-        assert_eq!(rt; first_tick(&clock(Relation::Gt, 4), &[2], &[], 2), Some(7));
-        assert_eq!(rt; first_tick(&clock(Relation::Ge, 4), &[2], &[], 2), Some(6));
-        assert_eq!(rt; first_tick(&clock(Relation::Eq, 4), &[2], &[], 2), Some(6));
-        assert_eq!(rt; first_tick(&clock(Relation::Eq, 4), &[2], &[], 7), None);
-        assert!(rt; !guard_holds(&clock(Relation::Gt, 4), &[2], &[], 6));
-        assert!(rt; guard_holds(&clock(Relation::Gt, 4), &[2], &[], 7));
-        assert!(rt; !guard_holds(&clock(Relation::Eq, 4), &[2], &[], 5));
-        assert!(rt; guard_holds(&clock(Relation::Eq, 4), &[2], &[], 6));
-        assert!(rt; !guard_holds(&clock(Relation::Eq, 4), &[2], &[], 7));
+        assert_eq!(rt;
+            clocks(&[2]).first_tick(&clock(Relation::Gt, 4), 2),
+            Some(7)
+        );
+        assert_eq!(rt;
+            clocks(&[2]).first_tick(&clock(Relation::Ge, 4), 2),
+            Some(6)
+        );
+        assert_eq!(rt;
+            clocks(&[2]).first_tick(&clock(Relation::Eq, 4), 2),
+            Some(6)
+        );
+        assert_eq!(rt; clocks(&[2]).first_tick(&clock(Relation::Eq, 4), 7), None);
+        assert!(rt; !clocks(&[2]).guard_holds(&clock(Relation::Gt, 4), 6));
+        assert!(rt; clocks(&[2]).guard_holds(&clock(Relation::Gt, 4), 7));
+        assert!(rt; !clocks(&[2]).guard_holds(&clock(Relation::Eq, 4), 5));
+        assert!(rt; clocks(&[2]).guard_holds(&clock(Relation::Eq, 4), 6));
+        assert!(rt; !clocks(&[2]).guard_holds(&clock(Relation::Eq, 4), 7));
     }
 
     #[test]
     fn the_first_and_the_last_tick(rt: HostRuntime) {
-        assert_eq!(rt; first_tick(&clock(Relation::Le, 0), &[0], &[], 0), Some(0));
-        assert_eq!(rt; first_tick(&clock(Relation::Lt, 0), &[0], &[], 0), None);
         assert_eq!(rt;
-            first_tick(&clock(Relation::Ge, LAST), &[0], &[], 0),
+            clocks(&[0]).first_tick(&clock(Relation::Le, 0), 0),
+            Some(0)
+        );
+        assert_eq!(rt; clocks(&[0]).first_tick(&clock(Relation::Lt, 0), 0), None);
+        assert_eq!(rt;
+            clocks(&[0]).first_tick(&clock(Relation::Ge, LAST), 0),
             Some(LAST)
         );
-        assert_eq!(rt; first_tick(&clock(Relation::Gt, LAST), &[0], &[], 0), None);
         assert_eq!(rt;
-            first_tick(&clock(Relation::Ge, 0), &[LAST], &[], LAST),
+            clocks(&[0]).first_tick(&clock(Relation::Gt, LAST), 0),
+            None
+        );
+        assert_eq!(rt;
+            clocks(&[LAST]).first_tick(&clock(Relation::Ge, 0), LAST),
             Some(LAST)
         );
-        assert!(rt; guard_holds(&clock(Relation::Eq, LAST), &[0], &[], LAST));
+        assert!(rt; clocks(&[0]).guard_holds(&clock(Relation::Eq, LAST), LAST));
     }
 
     #[test]
     fn negative_differences(rt: HostRuntime) {
-        assert!(rt; guard_holds(&apart(Relation::Eq, -3), &[5, 2], &[], 9));
-        assert!(rt; guard_holds(&apart(Relation::Lt, -2), &[5, 2], &[], 9));
-        assert!(rt; !guard_holds(&apart(Relation::Lt, -3), &[5, 2], &[], 9));
-        assert!(rt; !guard_holds(&apart(Relation::Eq, 3), &[5, 2], &[], 9));
+        assert!(rt; clocks(&[5, 2]).guard_holds(&apart(Relation::Eq, -3), 9));
+        assert!(rt; clocks(&[5, 2]).guard_holds(&apart(Relation::Lt, -2), 9));
+        assert!(rt; !clocks(&[5, 2]).guard_holds(&apart(Relation::Lt, -3), 9));
+        assert!(rt; !clocks(&[5, 2]).guard_holds(&apart(Relation::Eq, 3), 9));
         assert_eq!(rt;
-            first_tick(&apart(Relation::Eq, -3), &[5, 2], &[], 9),
+            clocks(&[5, 2]).first_tick(&apart(Relation::Eq, -3), 9),
             Some(9)
         );
         assert_eq!(rt;
-            first_tick(&apart(Relation::Eq, -1_000_000_000), &[LAST, 0], &[], LAST),
+            clocks(&[LAST, 0]).first_tick(&apart(Relation::Eq, -1_000_000_000), LAST),
             Some(LAST)
         );
-        assert_eq!(rt; first_tick(&apart(Relation::Ge, 0), &[5, 2], &[], 9), None);
+        assert_eq!(rt;
+            clocks(&[5, 2]).first_tick(&apart(Relation::Ge, 0), 9),
+            None
+        );
     }
 
     #[test]
@@ -355,8 +378,7 @@ mod tests {
             edges: &[],
             locations: &[],
             places: &[],
-            zeroed: &[],
-            values: &[],
+            valuation: clocks(&[]),
             present: &[],
             now: LAST - 3,
         };

@@ -63,8 +63,7 @@ impl View<'_> {
         match label {
             Label::Internal => true,
             Label::Trigger(x) => is_present(self.present, x),
-            Label::Send(_) => false,
-            Label::Receive(_) => false,
+            Label::Send(_) | Label::Receive(_) => false,
         }
     }
 

@@ -1,6 +1,12 @@
 -- When edges open, alone or with a partner.
-use Rattle.std.proofs.Common.{◌≡◌, ℕ, ◌<◌, ◌≤◌, min, max, Bool, true, false, not, ◌&&◌, eqb, ◌⊎◌, List, [], ◌∷◌, ◌++◌, Some, None, sym, refl, ap, ◌∙◌, subst, inl, inr, arith}
+use Rattle.std.proofs.Common.{◌≡◌, ℕ, ◌<◌, ◌≤◌, min, max, Bool, true, false, not, ◌&&◌, eqb, ◌⊎◌, List, Some, None, Bor, sym, refl, ap, ◌∙◌, subst, inl, inr, arith}
+use denote.Param.Members.{Mut}
+use Rattle.std.specs.declared.slice.Iter.{Iter}
+use Rattle.std.specs.Fn.{Called}
+use Rattle.std.specs.Slice.Iter.{iter_rest}
 use Rattle.std.specs.List.{AllByRecursion}
+use Rattle.std.proofs.lemmas.Fn.{fronts}
+use Rattle.std.proofs.lemmas.Iterator.{YieldsList-from_slice}
 use Rattle.std.proofs.ByRecursion.{All-weaker}
 use Rattle.std.proofs.lemmas.Bool.{and_parts, and_from, and_left, and_right, both_ways, cases_Bool}
 use Rattle.parts.specs.declared.part.Edge.{Edge}
@@ -15,7 +21,7 @@ use Rattle.search.specs.Views.{state_of}
 use Rattle.strides.specs.Quiet.{at_tick}
 use Rattle.strides.specs.declared.stretch.Stretch.{Stretch}
 use Rattle.strides.specs.Reach.{FreePart, ViewFreePart, EdgeShut, could_join, pairs_at}
-use Rattle.strides.proofs.Reaching.{part_whole, part_same, AllFree, row_none, row_more, nth_from_all, all_from_nth}
+use Rattle.strides.proofs.Reaching.{part_whole, part_same, AllFree, Folds, row_folded, nth_from_all, all_from_nth}
 
 and_order : (g a l h o : Bool) → (g && (a && ((l && h) && o))) ≡ ((a && (l && o)) && (g && h))
 and_order true true true h o = and_swap h o
@@ -54,12 +60,11 @@ module _ (v : View) (d c : Edge) (s : Stretch) where
             pairs_by_guards (state_of v) t d c ∙ (ap (λ u. u && (g && k)) h ∙ (ap (λ u. u && k) x ∙ (ap (λ u. in_span own t && u) y ∙ sym (meet_is own other both t low high))))
 
 -- edges one behind the other
-module _ (v : View) (P : Edge → ℕ → Type 0) (s : Stretch) where
-  pub edges_none : ViewFreePart v (AllFree P []) s s
-  edges_none z = row_none P s
-
-  pub edges_more : (ds : List Edge) (d : Edge) (m r : Stretch) → ViewFreePart v (AllFree P ds) s m → ViewFreePart v (P d) m r → ViewFreePart v (AllFree P (ds ++ (d ∷ []))) s r
-  edges_more ds d m r p q z = let so_far = p z in row_more P ds d s m r so_far (q (subst (ZeroedBy v.valuation.zeroed.now) (sym so_far.same_start) z))
+pub edges_folded : {F : Type 0} (v : View) (P : Edge → ℕ → Type 0) (g : Mut F (Stretch × (Bor Edge × Unit {0})) Stretch) (f : F) (s : Stretch) (it : Iter Edge) (r : Stretch) → ((m : Stretch) (x : Bor Edge) (n : Stretch) (q : F) → Called g f (m, (x, tt)) n q → ViewFreePart v (P x.now) m n × (q ≡ f)) → iter_rest it ≡ v.edges.now → Folds P g f s fronts it r → ViewFreePart v (AllFree P v.edges.now) s r
+edges_folded v P g f s it r step all ran z =
+    row_folded P g f s fronts it v.edges.now r
+    (λ m x n q e k. let next = step m x n q k in (next.0 (subst (ZeroedBy v.valuation.zeroed.now) (sym e) z), next.1))
+    (YieldsList-from_slice v.edges.now all) ran
 
 all_of : {X : Type 0} (P : X → Type 0) (xs : List X) → ((x : X) → P x) → AllByRecursion P xs
 all_of P xs h = all_from_nth P xs (λ k b x e. h x)

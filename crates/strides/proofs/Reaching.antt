@@ -1,7 +1,12 @@
 -- Obstacles one behind the other: each leaves the front part of what the one before has left.
-use Rattle.std.proofs.Common.{◌≡◌, ℕ, zero, suc, ◌+◌, ◌<◌, ◌≤◌, ◌⊎◌, List, [], ◌∷◌, ◌++◌, length, take, Some, None, sym, refl, ap, ◌∙◌, subst, inl, inr, arith}
-use Rattle.std.specs.List.{slice_get, AllByRecursion}
+use Rattle.std.proofs.Common.{◌≡◌, ℕ, zero, suc, ◌+◌, ◌<◌, ◌≤◌, ◌⊎◌, List, [], ◌∷◌, ◌++◌, length, take, Some, None, Option, Bor, sym, refl, ap, ◌∙◌, subst, inl, inr, arith}
+use denote.Param.Members.{Mut}
+use Rattle.std.specs.Fn.{Called}
+use Rattle.std.specs.Iterator.{Drains}
+use Rattle.std.specs.List.{slice_get, AllByRecursion, FoldsTo}
 use Rattle.std.proofs.lemmas.Bool.{cases_lt}
+use Rattle.std.proofs.lemmas.Fn.{fold_over}
+use Rattle.std.proofs.lemmas.Iterator.{YieldsList}
 use Rattle.std.proofs.lemmas.List.{take_more, take_all}
 use Rattle.std.proofs.lemmas.Option.{slice_get_within, get_or_from_slice_get, none-some}
 use Rattle.strides.specs.declared.stretch.Stretch.{Stretch}
@@ -98,3 +103,14 @@ module _ {X : Type 0} (P : X → ℕ → Type 0) where
 
   pub place_all : (xs : List X) (i : ℕ) (s r : Stretch) → length xs ≤ i → FreePart (AllFree (take i xs)) s r → FreePart (AllFree xs) s r
   place_all xs i s r h p = subst (λ ys. FreePart (AllFree ys) s r) (take_all i xs h) p
+
+-- a chain that lowers a stretch by each item
+module _ {X F : Type 0} (P : X → ℕ → Type 0) (g : Mut F (Stretch × (Bor X × Unit {0})) Stretch) (f : F) (s : Stretch) where
+  abbrev pub Folds : {I : Type 0} → (I → Option (Bor X) → I → Type 0) → I → Stretch → Type 0
+  Folds steps it r = (ys : List (Bor X)) × (q : F) × Drains steps it ys × FoldsTo {P = F × Stretch} (λ a x b. Called g a.0 (a.1, (x, tt)) b.1 b.0) (f, s) ys (q, r)
+
+  pub row_folded : {I : Type 0} (steps : I → Option (Bor X) → I → Type 0) (it : I) (xs : List X) (r : Stretch) → ((m : Stretch) (x : Bor X) (n : Stretch) (q : F) → m.from ≡ s.from → Called g f (m, (x, tt)) n q → FreePart (P x.now) m n × (q ≡ f)) → YieldsList steps (λ x. x.now) it xs → Folds steps it r → FreePart (AllFree P xs) s r
+  row_folded steps it xs r step gives ran =
+      fold_over steps (λ x. x.now) g (λ ys m. FreePart (AllFree P ys) s m) f
+      (λ ys m x n q so_far k. let next = step m x n q so_far.same_start k in (row_more P ys x.now s m n so_far next.0, next.1))
+      it xs s r gives.runs (row_none P s) ran
