@@ -1,10 +1,10 @@
 // Taking an edge, alone or with a partner: all of the step, or nothing of it.
-ghost use Rattle.std.specs.Prelude.{◌≡◌, ◌+◌, ◌≤◌, [], length, nat_le};
+ghost use Rattle.std.specs.Prelude.{◌≡◌, ◌+◌, ◌≤◌, length, nat_le};
 ghost use Rattle.runs.specs.Edges.{sides as in_turn};
 ghost use Rattle.runs.specs.Values.{assign_edges};
-ghost use Rattle.machine.specs.Model.{model};
 ghost use Rattle.moves.specs.Assigning.{Assigns};
 ghost use Rattle.moves.specs.Changes.{releases, releases_at, side_taken, sides_taken};
+ghost use Rattle.moves.specs.State.{state};
 ghost use Rattle.events.specs.Steps.{listed, StepTaken};
 
 use crate::sides::Sides;
@@ -38,7 +38,7 @@ impl Sides {
 
 // Whether the jobs that a step releases find room.
 fn has_room(engine: &Engine, sides: &Sides) -> bool
-    ensures { result ≡ nat_le (length (model [] engine.now.core).waiting + releases (model [] engine.now.core).plan (listed sides.now)) 32 }
+    ensures { result ≡ nat_le (length (state engine.now).waiting + releases (state engine.now).plan (listed sides.now)) 32 }
 {
     let first = engine.releases(sides.first.to);
     let second = sides.second.map_or(0, |edge| engine.releases(edge.to));
@@ -47,7 +47,7 @@ fn has_room(engine: &Engine, sides: &Sides) -> bool
 
 // The assignments of a step.
 fn assign_sides(engine: &mut Engine, sides: &Sides, room: bool) -> Result<(), StepFault>
-    ensures { Assigns room (assign_edges (model [] engine.old.core).plan.variables (listed sides.now) (model [] engine.old.core).values) (model [] engine.old.core) (model [] engine.new.core) result }
+    ensures { Assigns room (assign_edges (state engine.old).plan.variables (listed sides.now) (state engine.old).values) (state engine.old) (state engine.new) result }
 {
     let second = sides
         .second
@@ -58,7 +58,7 @@ fn assign_sides(engine: &mut Engine, sides: &Sides, room: bool) -> Result<(), St
 
 // What one side of a step changes beside the variables.
 fn take_side<O: Order>(engine: &mut Engine, order: &O, edge: &Edge)
-    ensures { length (model [] engine.old.core).waiting + releases_at (model [] engine.old.core).plan edge.now.to ≤ 32 → model [] engine.new.core ≡ side_taken (O.Precedence.before order.now) edge.now (model [] engine.old.core) }
+    ensures { length (state engine.old).waiting + releases_at (state engine.old).plan edge.now.to ≤ 32 → state engine.new ≡ side_taken (O.Precedence.before order.now) edge.now (state engine.old) }
 {
     engine.zero(&edge.resets);
     engine.follow(edge);
@@ -67,7 +67,7 @@ fn take_side<O: Order>(engine: &mut Engine, order: &O, edge: &Edge)
 
 // What all sides of a step change beside the variables.
 fn take_sides<O: Order>(engine: &mut Engine, order: &O, sides: &Sides)
-    ensures { length (model [] engine.old.core).waiting + releases (model [] engine.old.core).plan (listed sides.now) ≤ 32 → model [] engine.new.core ≡ sides_taken (O.Precedence.before order.now) (listed sides.now) (model [] engine.old.core) }
+    ensures { length (state engine.old).waiting + releases (state engine.old).plan (listed sides.now) ≤ 32 → state engine.new ≡ sides_taken (O.Precedence.before order.now) (listed sides.now) (state engine.old) }
 {
     take_side(engine, order, &sides.first);
     if let Some(edge) = sides.second {
@@ -82,7 +82,7 @@ pub fn take<O: Order>(
     edge: &Edge,
     partner: Option<Edge>,
 ) -> Result<(), Cause>
-    ensures { StepTaken (O.Precedence.before order.now) edge.now partner (model [] engine.old.core) (model [] engine.new.core) result }
+    ensures { StepTaken (O.Precedence.before order.now) edge.now partner (state engine.old) (state engine.new) result }
 {
     if engine.core.steps >= MOST_STEPS {
         return Err(Cause::StepLimit);

@@ -1,6 +1,6 @@
 // Triggers come.
-ghost use Rattle.std.specs.Prelude.{◌≡◌, []};
-ghost use Rattle.machine.specs.Model.{model};
+ghost use Rattle.std.specs.Prelude.{◌≡◌};
+ghost use Rattle.moves.specs.State.{state};
 ghost use Rattle.moves.specs.Arrivals.{TakesDue, is_new, Arrived};
 
 use crate::engine::Engine;
@@ -20,14 +20,14 @@ pub fn take_due<S: Source>(source: &mut S, tick: u32) -> Option<Trigger>
 impl Engine {
     // Whether a trigger that comes would become present: it is known and absent.
     pub fn accepts(&self, trigger: u8) -> bool
-        ensures { result ≡ is_new (model [] self.now.core).present trigger }
+        ensures { result ≡ is_new (state self.now).present trigger }
     {
         trigger < self.core.sequence.counts().triggers && !is_present(self.core.present(), trigger)
     }
 
     // A trigger comes: whether it becomes present. One that is unknown or already present does not.
     pub fn arrive(&mut self, trigger: u8) -> bool
-        ensures { Arrived trigger (model [] self.old.core) (model [] self.new.core) result }
+        ensures { Arrived trigger (state self.old) (state self.new) result }
     {
         if !self.accepts(trigger) {
             return false;

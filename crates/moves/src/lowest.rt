@@ -1,7 +1,7 @@
 // The lowest present trigger, and the lowest automaton that must not stay.
-ghost use Rattle.std.specs.Prelude.{◌≡◌, ◌≤◌, [], length};
+ghost use Rattle.std.specs.Prelude.{◌≡◌, ◌≤◌, length};
 ghost use Rattle.runs.specs.Rules.{may_stay};
-ghost use Rattle.machine.specs.Model.{model};
+ghost use Rattle.moves.specs.State.{state};
 ghost use Rattle.moves.specs.Lowest.{LowestPresent, LowestStuck};
 
 use crate::engine::Engine;
@@ -12,7 +12,7 @@ use search::is_present;
 impl Engine {
     // The lowest present trigger, or none.
     pub fn lowest_present(&self) -> Option<u8>
-        ensures { LowestPresent (model [] self.now.core).present result }
+        ensures { LowestPresent (state self.now).present result }
     {
         let present = self.core.present();
         (0..self.core.sequence.counts().triggers).find(|x| is_present(present, *x))
@@ -20,7 +20,7 @@ impl Engine {
 
     // Whether an automaton may be at its location at a tick.
     fn may_be_at(&self, automaton: u8, tick: u32) -> bool
-        ensures { result ≡ may_stay (model [] self.now.core) tick automaton }
+        ensures { result ≡ may_stay (state self.now) tick automaton }
     {
         let Some(place) = item(self.core.places(), automaton as usize) else {
             return true;
@@ -30,7 +30,7 @@ impl Engine {
 
     // The lowest automaton whose location's invariants fail at the next tick, or none.
     pub fn stuck(&self) -> Option<u8>
-        ensures { LowestStuck (model [] self.now.core) result }
+        ensures { LowestStuck (state self.now) result }
     {
         let tick = self.core.now + 1;
         (0..self.core.sequence.counts().automata).find(|a| !self.may_be_at(*a, tick))

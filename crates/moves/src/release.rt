@@ -1,8 +1,8 @@
 // Releasing the task of a location.
-ghost use Rattle.std.specs.Prelude.{◌≡◌, ◌+◌, ◌≤◌, [], length};
+ghost use Rattle.std.specs.Prelude.{◌≡◌, ◌+◌, ◌≤◌, length};
 ghost use Rattle.std.specs.List.{slice_get};
 ghost use Rattle.runs.specs.Jobs.{task_in};
-ghost use Rattle.machine.specs.Model.{model};
+ghost use Rattle.moves.specs.State.{state};
 ghost use Rattle.moves.specs.Changes.{location_released, releases_at};
 
 use crate::engine::Engine;
@@ -12,14 +12,14 @@ use jobs::job::Job;
 impl Engine {
     // The number of a location's task.
     fn task_number(&self, location: u8) -> Option<u8>
-        ensures { result ≡ task_in (slice_get (model [] self.now.core).plan.locations location) }
+        ensures { result ≡ task_in (slice_get (state self.now).plan.locations location) }
     {
         self.core.sequence.location(location).and_then(|l| l.task)
     }
 
     // How many jobs come with a location: one where it has a task.
     pub fn releases(&self, location: u8) -> usize
-        ensures { result ≡ releases_at (model [] self.now.core).plan location }
+        ensures { result ≡ releases_at (state self.now).plan location }
     {
         self.task_number(location)
             .and_then(|number| self.core.sequence.task(number))
@@ -28,7 +28,7 @@ impl Engine {
 
     // The task of a location is released, where there is room.
     pub fn release<O: Order>(&mut self, order: &O, location: u8)
-        ensures { length (model [] self.old.core).waiting + releases_at (model [] self.old.core).plan location ≤ 32 → model [] self.new.core ≡ location_released (O.Precedence.before order.now) location (model [] self.old.core) }
+        ensures { length (state self.old).waiting + releases_at (state self.old).plan location ≤ 32 → state self.new ≡ location_released (O.Precedence.before order.now) location (state self.old) }
     {
         let Some(number) = self.task_number(location) else {
             return;

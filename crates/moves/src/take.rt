@@ -1,9 +1,9 @@
 // What a taken edge changes, part by part.
-ghost use Rattle.std.specs.Prelude.{◌≡◌, ◌+◌, ◌<◌, [], slice_set};
+ghost use Rattle.std.specs.Prelude.{◌≡◌, ◌+◌, ◌<◌, slice_set};
 ghost use Rattle.runs.specs.State.{automaton};
 ghost use Rattle.runs.specs.Edges.{reset_all, take_trigger};
 ghost use Rattle.rows.specs.Rows.{assign_both};
-ghost use Rattle.machine.specs.Model.{model};
+ghost use Rattle.moves.specs.State.{state};
 ghost use Rattle.moves.specs.Changes.{with_zeroed, with_places, stepped};
 ghost use Rattle.moves.specs.Assigning.{Assigns};
 
@@ -16,14 +16,14 @@ use rows::take::{move_to, reset_all, take_trigger};
 impl Engine {
     // Clocks are zeroed at this tick.
     pub fn zero(&mut self, resets: &[Option<Reset>])
-        ensures { model [] self.new.core ≡ with_zeroed (reset_all self.old.core.now resets.now (model [] self.old.core).zeroed) (model [] self.old.core) }
+        ensures { state self.new ≡ with_zeroed (reset_all self.old.core.now resets.now (state self.old).zeroed) (state self.old) }
     {
         reset_all(&mut self.core.zeroed, resets, self.core.now);
     }
 
     // The automaton of a location.
     fn automaton_of(&self, location: u8) -> u8
-        ensures { result ≡ automaton (model [] self.now.core).plan location }
+        ensures { result ≡ automaton (state self.now).plan location }
     {
         self.core
             .sequence
@@ -33,7 +33,7 @@ impl Engine {
 
     // An edge leads its automaton to the new location.
     pub fn follow(&mut self, edge: &Edge)
-        ensures { model [] self.new.core ≡ with_places (slice_set (model [] self.old.core).places (automaton (model [] self.old.core).plan edge.now.from) edge.now.to) (model [] self.old.core) }
+        ensures { state self.new ≡ with_places (slice_set (state self.old).places (automaton (state self.old).plan edge.now.from) edge.now.to) (state self.old) }
     {
         let automaton = self.automaton_of(edge.from);
         move_to(&mut self.core.places, automaton, edge.to);
@@ -42,7 +42,7 @@ impl Engine {
     // A step is counted, and its trigger is taken.
     pub fn count_step(&mut self, label: Label)
         requires { self.old.core.steps < 64 }
-        ensures { model [] self.new.core ≡ stepped (take_trigger label (model [] self.old.core).present) (model [] self.old.core) }
+        ensures { state self.new ≡ stepped (take_trigger label (state self.old).present) (state self.old) }
     {
         take_trigger(&mut self.core.present, label);
         self.core.steps += 1;
@@ -56,7 +56,7 @@ impl Engine {
         second: &[Option<Assignment>],
         room: bool,
     ) -> Result<(), StepFault>
-        ensures { Assigns room (assign_both (model [] self.old.core).plan.variables first.now second.now (model [] self.old.core).values) (model [] self.old.core) (model [] self.new.core) result }
+        ensures { Assigns room (assign_both (state self.old).plan.variables first.now second.now (state self.old).values) (state self.old) (state self.new) result }
     {
         let count = self.core.sequence.variables().len();
         // The row is copied out and back: it cannot be lent while the sequence beside it, a type with ghost fields, is.
