@@ -16,7 +16,7 @@ begins : (b : ℕ) (t : List ℕ) → (p : List ℕ) × (ps : List (List ℕ)) �
 begins b t = go (pieces b t) (pieces_some b t)
   where
     go : (ps : List (List ℕ)) → some ps ≡ true → (q : List ℕ) × (qs : List (List ℕ)) × (ps ≡ q ∷ qs)
-    go [] h = let z : ◌≡◌ {A = ℕ} 0 1 = cc in absurd (omega arith)
+    go [] h = absurd cc
     go (q ∷ qs) h = (q, qs, refl)
 
 pub shorter : (rest l m : List ℕ) → cut newline rest ≡ Some (l, m) → length l + (length m + 1) ≡ length rest

@@ -1,5 +1,5 @@
 -- What a draft answered, as what the line did.
-use Rattle.std.proofs.Common.{◌≡◌, ℕ, Bool, true, false, cond, List, IsErrAnd, Ok, Err, Result, sym, refl, ap, ◌∙◌, subst, arith}
+use Rattle.std.proofs.Common.{◌≡◌, ℕ, Bool, true, false, cond, List, IsErrAnd, Ok, Err, Result, sym, refl, ap, ◌∙◌, subst}
 use Rattle.parts.specs.declared.part.Rule.{Rule}
 use Rattle.parts.specs.declared.part.Rule.TheVariants.{BadAutomaton, BadEnds}
 use Rattle.sequence.specs.Plan.{Plan, ends_fit}
@@ -20,27 +20,16 @@ use Rattle.grammar.proofs.Parsing.{on_ok, row_back}
 use Rattle.grammar.proofs.Appending.{clock_fits, difference_fits, value_fits}
 use Rattle.lines.specs.Values.{part_of, reset_of}
 use Rattle.reader.specs.declared.take.Taken.{Taken}
-use Rattle.reader.specs.declared.take.Taken.TheVariants.{More}
-use Rattle.reader.specs.Taking.{Takes, add_assignment, TakesValue}
+use Rattle.reader.specs.Taking.{Takes, placed, add_assignment, TakesValue}
 use Rattle.reader.proofs.Accepted.{variable_accepted, task_accepted, set_accepted, location_accepted, invariant_accepted, edge_accepted, condition_accepted, reset_accepted}
-
--- the part of a line that was read can break no rule but that of its automaton
-abbrev pub placed : Place → Result Unit Rule → Result Taken SequenceFault
-placed at (Ok _) = Ok More
-placed at (Err _) = Err (WrongAutomaton at)
 
 module _ (at : Place) (before after q : Plan) (rule : Rule) where
   -- the draft accepts the part if and only if the line is accepted
   pub by_answer : (b : Bool) (outcome : Result Plan Rule) (s : Result Step SequenceFault) → outcome ≡ cond b (Ok q) (Err rule) → s ≡ cond b (Ok (more q)) (Err (WrongAutomaton at)) → (r : Result Unit Rule) → Adds outcome before after r → Takes s before after (placed at r)
   by_answer true outcome s o e (Ok u) h = let d : q ≡ after = cc in e ∙ ap (λ x. Ok (more x)) d
-  by_answer true outcome s o e (Err k) h = let i = h.0 in let z : ◌≡◌ {A = ℕ} 0 1 = cc in absurd (omega arith)
-  by_answer false outcome s o e (Ok u) h = let z : ◌≡◌ {A = ℕ} 0 1 = cc in absurd (omega arith)
+  by_answer true outcome s o e (Err k) h = let i = h.0 in absurd cc
+  by_answer false outcome s o e (Ok u) h = absurd cc
   by_answer false outcome s o e (Err k) h = (e, h.1)
-
-module _ (at : Place) (before after q : Plan) where
-  -- the draft accepts the part, and the line is accepted
-  pub by_part : (outcome : Result Plan Rule) (s : Result Step SequenceFault) → outcome ≡ Ok q → s ≡ Ok (more q) → (r : Result Unit Rule) → Adds outcome before after r → Takes s before after (placed at r)
-  by_part = by_answer at before after q BadAutomaton true
 
 -- a fault that is passed on
 pub passed_on : (p : Plan) (s : Result Step SequenceFault) (fault : SequenceFault) (r : Result Taken SequenceFault) → IsErrAnd r (λ e. e ≡ fault) → s ≡ Err fault → Takes s p p r
@@ -78,7 +67,7 @@ module _ {X : Type 0} (p : Plan) (k : Key) (part : Fields k → X) (at : Place) 
   -- a fault of the value is the line's, and nothing has changed
   pub faulty : (e : SequenceFault) (r : Result (Fields k) SequenceFault) → on r (λ f. Ok (part f)) ≡ Err e → on r (take_fields k p at) ≡ Err e
   faulty e (Err d) h = let i : d ≡ e = cc in ap Err i
-  faulty e (Ok f) h = let z : ◌≡◌ {A = ℕ} 0 1 = cc in absurd (omega arith)
+  faulty e (Ok f) h = absurd cc
 
   pub faulted : (e : SequenceFault) → Err e ≡ read → take_value k p at value ≡ Err e
   faulted e h = faulty e ((row (there p) k).parse at (pieces comma value)) (sym h)
@@ -99,36 +88,40 @@ pub record AcceptsAt {X : Type 0} (p : Plan) (at : Place) (k : Key) (part : Fiel
 pub record Accepts {X : Type 0} (p : Plan) (at : Place) (k : Key) (part : Fields k → X) (add : Plan → X → Result Plan Rule) : Type 0 where
   pub fields : (f : Fields k) → allowed k p ≡ true → room k p ≡ true → (row (there p) k).good f ≡ true → AcceptsAt p at k part add f
 
+-- no rule can be broken
+surely : {X : Type 0} (p : Plan) (at : Place) (k : Key) (part : Fields k → X) (add : Plan → X → Result Plan Rule) (f : Fields k) (after : Plan) → add p (part f) ≡ Ok after → take_fields k p at f ≡ Ok (more after) → AcceptsAt p at k part add f
+surely p at k part add f after a t = record { fits = true; after = after; rule = BadAutomaton; adds = a; takes = t }
+
 module _ (p : Plan) (at : Place) where
   pub variable : Accepts p at Var variable_of add_variable
-  variable = record { fields = λ f h r g. record { fits = true; after = with_variable p (variable_of f); rule = BadAutomaton; adds = variable_accepted p f h r g; takes = refl } }
+  variable = record { fields = λ f h r g. surely _ _ _ _ _ f (with_variable p (variable_of f)) (variable_accepted p f h r g) refl }
 
   pub task : Accepts p at Task task_of add_task
-  task = record { fields = λ f h r g. record { fits = true; after = with_task p (task_of f); rule = BadAutomaton; adds = task_accepted p f h r g; takes = refl } }
+  task = record { fields = λ f h r g. surely _ _ _ _ _ f (with_task p (task_of f)) (task_accepted p f h r g) refl }
 
   pub location : Accepts p at Loc location_of add_location
   location = record { fields = λ f h r g. record { fits = next_automaton p f.0; after = with_location p (location_of f); rule = BadAutomaton; adds = location_accepted p f h r g; takes = refl } }
 
   pub invariant : Accepts p at Inv invariant_of add_invariant
-  invariant = record { fields = λ f h r g. record { fits = true; after = with_last_location (limited (invariant_of f)) p; rule = BadAutomaton; adds = invariant_accepted p f h r g; takes = refl } }
+  invariant = record { fields = λ f h r g. surely _ _ _ _ _ f (with_last_location (limited (invariant_of f)) p) (invariant_accepted p f h r g) refl }
 
   pub edge : Accepts p at Edge edge_of add_edge
   edge = record { fields = λ f h r g. record { fits = ends_fit p.locations (edge_of f); after = with_edge p (edge_of f); rule = BadEnds; adds = edge_accepted p f r g; takes = refl } }
 
   pub reset : Accepts p at Zero reset_of add_reset
-  reset = record { fields = λ f h r g. record { fits = true; after = with_last_edge (resetting (reset_of f)) p; rule = BadAutomaton; adds = reset_accepted p f r g; takes = refl } }
+  reset = record { fields = λ f h r g. surely _ _ _ _ _ f (with_last_edge (resetting (reset_of f)) p) (reset_accepted p f r g) refl }
 
   pub assignment : Sound p → Accepts p at Set assignment_of add_assignment
-  assignment s = record { fields = λ f h r g. record { fits = true; after = with_assignment (assignment_of f) p; rule = BadAutomaton; adds = set_accepted p s f h r g; takes = refl } }
+  assignment s = record { fields = λ f h r g. surely _ _ _ _ _ f (with_assignment (assignment_of f) p) (set_accepted p s f h r g) refl }
 
   pub clock : Sound p → Accepts p at Clk clock_condition add_condition
-  clock s = record { fields = λ f h r g. record { fits = true; after = with_last_edge (guarded (clock_condition f)) p; rule = BadAutomaton; adds = condition_accepted p (clock_condition f) r (clock_fits p s f g); takes = refl } }
+  clock s = record { fields = λ f h r g. surely _ _ _ _ _ f (with_last_edge (guarded (clock_condition f)) p) (condition_accepted p (clock_condition f) r (clock_fits p s f g)) refl }
 
   pub difference : Sound p → Accepts p at Dif difference_condition add_condition
-  difference s = record { fields = λ f h r g. record { fits = true; after = with_last_edge (guarded (difference_condition f)) p; rule = BadAutomaton; adds = condition_accepted p (difference_condition f) r (difference_fits p s f g); takes = refl } }
+  difference s = record { fields = λ f h r g. surely _ _ _ _ _ f (with_last_edge (guarded (difference_condition f)) p) (condition_accepted p (difference_condition f) r (difference_fits p s f g)) refl }
 
   pub value : Sound p → Accepts p at Val variable_condition add_condition
-  value s = record { fields = λ f h r g. record { fits = true; after = with_last_edge (guarded (variable_condition f)) p; rule = BadAutomaton; adds = condition_accepted p (variable_condition f) r (value_fits p s f g); takes = refl } }
+  value s = record { fields = λ f h r g. surely _ _ _ _ _ f (with_last_edge (guarded (variable_condition f)) p) (condition_accepted p (variable_condition f) r (value_fits p s f g)) refl }
 
 -- ---- what a line of a kind did
 

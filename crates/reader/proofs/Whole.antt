@@ -1,5 +1,5 @@
 -- From the counts and the lines to the whole text.
-use Rattle.std.proofs.Common.{◌≡◌, ℕ, ◌≤◌, Bool, true, false, List, ◌++◌, length, Ok, Err, Result, refl, sym, ap, ◌∙◌, arith}
+use Rattle.std.proofs.Common.{◌≡◌, ℕ, ◌≤◌, true, false, List, ◌++◌, length, Ok, Err, Result, refl, sym, ap, ◌∙◌, arith}
 use Rattle.std.specs.Result.{IsOk, MatchResult}
 use Rattle.std.proofs.lemmas.List.{length-append}
 use Rattle.std.proofs.lemmas.Bool.{cond-true, cond-false, le-ltb}
@@ -46,7 +46,7 @@ module _ (t : List ℕ) where
       begin_ok = cond-true _ _ _ fit
 
       pub never_refused : (rule : Rule) → begin c ≡ Err rule → ⊥
-      never_refused rule e = let i = begin_ok in let z : ◌≡◌ {A = ℕ} 0 1 = cc in omega arith
+      never_refused rule e = let i = begin_ok in cc
 
       pub begun_as : (p : Plan) → begin c ≡ Ok p → begun c ≡ p
       begun_as p e = let i = begin_ok in cc
@@ -67,7 +67,7 @@ module _ (t : List ℕ) where
               (reads_on (pieces newline l) (begun c) 6 q (pieces newline rest) (sound_facts (begun c) (begun_sound c fit)) (begun_widths c) k).valid.1
 
           pub never_unfinished : complete q ≡ false → ⊥
-          never_unfinished h = let i = all_there in let z : ◌≡◌ {A = Bool} true false = cc in let y : ◌≡◌ {A = ℕ} 0 1 = cc in omega arith
+          never_unfinished h = let i = all_there in cc
 
           pub all_read : Reads t q rest
           all_read =

@@ -27,8 +27,9 @@ pub(crate) fn read_lines<'a>(draft: &mut Draft, text: &'a [u8]) -> Result<&'a [u
             }
         }
     }
-    Err(SequenceFault::Line(LineFault::Malformed(Place {
+    let at = Place {
         line: number,
         column: 1,
-    })))
+    };
+    Err(LineFault::Malformed(at).into())
 }

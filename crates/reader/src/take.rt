@@ -4,7 +4,7 @@ ghost use Rattle.lexical.specs.declared.key.Key.TheVariants as kind;
 ghost use Rattle.sequence.specs.Model.{plan_of, Adds};
 ghost use Rattle.grammar.specs.Lines.{there};
 ghost use Rattle.lines.specs.Values.{there_of};
-ghost use Rattle.reader.specs.Taking.{TakesValue, add_assignment};
+ghost use Rattle.reader.specs.Taking.{TakesValue, add_assignment, placed};
 
 use lexical::fault::{LineFault, Place, SequenceFault};
 use lexical::key::Key;
@@ -38,6 +38,15 @@ fn present(draft: &Draft) -> Present
         tasks: draft.tasks().len(),
         locations: draft.locations().len(),
     }
+}
+
+// The part of a line that was read can break no rule but that of its automaton.
+fn placed(answer: Result<(), Rule>, at: Place) -> Result<Taken, SequenceFault>
+    ensures { result ≡ placed at answer }
+{
+    answer
+        .map(|()| Taken::More)
+        .map_err(|_| SequenceFault::WrongAutomaton(at))
 }
 
 // An assignment goes to the last task, or to the last edge where there is one.
@@ -90,8 +99,5 @@ pub(crate) fn take_value(
         Key::Zero => draft.add_reset(reset_line(value, at, present)?),
         Key::Edges => return take_edge_count(draft, at, value),
     };
-    // the part of a line that was read can break no rule but that of its automaton
-    added
-        .map(|()| Taken::More)
-        .map_err(|_| SequenceFault::WrongAutomaton(at))
+    placed(added, at)
 }

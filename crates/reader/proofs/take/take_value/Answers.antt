@@ -1,8 +1,8 @@
-use Rattle.std.proofs.Common.{◌≡◌, ap, rules}
+use Rattle.std.proofs.Common.{ap}
 use Rattle.lexical.specs.declared.key.Key.TheVariants.{Edges}
 use Rattle.sequence.specs.Model.{plan_of}
 use Rattle.sequence.proofs.Sound.{sound_facts}
-use Rattle.reader.proofs.Taken.{placed, variable, task, assignment, location, invariant, edge, clock, difference, value, reset, taken, refused, by_kind}
+use Rattle.reader.proofs.Taken.{variable, task, assignment, location, invariant, edge, clock, difference, value, reset, taken, refused, by_kind}
 use Rattle.reader.proofs.take.take_value.Goals as goal
 use Rattle.reader.proofs.take.take_value.Goals.{in-Var+in_ok-variable_line-in-Var, in-Task+in_ok-task_line-in-Task, in-Set+in_ok-assignment_line-in-Set, in-Loc+in_ok-location_line-in-Loc, in-Inv+in_ok-invariant_line-in-Inv, in-Edge+in_ok-edge_line-in-Edge, in-Clk+in_ok-clock_line-in-Clk, in-Dif+in_ok-difference_line-in-Dif, in-Val+in_ok-value_line-in-Val, in-Zero+in_ok-reset_line-in-Zero}
 
@@ -51,16 +51,15 @@ returns-in-Edges c = by_kind (plan_of c.args.draft.now) c.args.at c.args.value.n
 
 pub returns : goal.returns
 returns c =
-    let e : c.map_err.result ≡ placed c.args.at c.match-key.added = search rules in
     elim c.match-key.branch [
-      | in-Var+in_ok-variable_line-in-Var w ↦ taken (variable _ _) c.args.value.now c.present-present.ensures w.in-Var.is w.in_ok-variable_line-in-Var.ensures w.add_variable-added.ensures (ap plan_of w.draft-is) w.added-is _ e
-      | in-Task+in_ok-task_line-in-Task w ↦ taken (task _ _) c.args.value.now c.present-present.ensures w.in-Task.is w.in_ok-task_line-in-Task.ensures w.add_task-added.ensures (ap plan_of w.draft-is) w.added-is _ e
-      | in-Set+in_ok-assignment_line-in-Set w ↦ taken (assignment _ _ (sound_facts _ c.args.draft.now.valid)) c.args.value.now c.present-present.ensures w.in-Set.is w.in_ok-assignment_line-in-Set.ensures w.add_assignment-added.ensures (ap plan_of w.draft-is) w.added-is _ e
-      | in-Loc+in_ok-location_line-in-Loc w ↦ taken (location _ _) c.args.value.now c.present-present.ensures w.in-Loc.is w.in_ok-location_line-in-Loc.ensures w.add_location-added.ensures (ap plan_of w.draft-is) w.added-is _ e
-      | in-Inv+in_ok-invariant_line-in-Inv w ↦ taken (invariant _ _) c.args.value.now c.present-present.ensures w.in-Inv.is w.in_ok-invariant_line-in-Inv.ensures w.add_invariant-added.ensures (ap plan_of w.draft-is) w.added-is _ e
-      | in-Edge+in_ok-edge_line-in-Edge w ↦ taken (edge _ _) c.args.value.now c.present-present.ensures w.in-Edge.is w.in_ok-edge_line-in-Edge.ensures w.add_edge-added.ensures (ap plan_of w.draft-is) w.added-is _ e
-      | in-Clk+in_ok-clock_line-in-Clk w ↦ taken (clock _ _ (sound_facts _ c.args.draft.now.valid)) c.args.value.now c.present-present.ensures w.in-Clk.is w.in_ok-clock_line-in-Clk.ensures w.add_condition-added.ensures (ap plan_of w.draft-is) w.added-is _ e
-      | in-Dif+in_ok-difference_line-in-Dif w ↦ taken (difference _ _ (sound_facts _ c.args.draft.now.valid)) c.args.value.now c.present-present.ensures w.in-Dif.is w.in_ok-difference_line-in-Dif.ensures w.add_condition-added-in-Dif.ensures (ap plan_of w.draft-is) w.added-is _ e
-      | in-Val+in_ok-value_line-in-Val w ↦ taken (value _ _ (sound_facts _ c.args.draft.now.valid)) c.args.value.now c.present-present.ensures w.in-Val.is w.in_ok-value_line-in-Val.ensures w.add_condition-added-in-Val.ensures (ap plan_of w.draft-is) w.added-is _ e
-      | in-Zero+in_ok-reset_line-in-Zero w ↦ taken (reset _ _) c.args.value.now c.present-present.ensures w.in-Zero.is w.in_ok-reset_line-in-Zero.ensures w.add_reset-added.ensures (ap plan_of w.draft-is) w.added-is _ e
+      | in-Var+in_ok-variable_line-in-Var w ↦ taken (variable _ _) c.args.value.now c.present-present.ensures w.in-Var.is w.in_ok-variable_line-in-Var.ensures w.add_variable-added.ensures (ap plan_of w.draft-is) w.added-is _ c.placed.ensures
+      | in-Task+in_ok-task_line-in-Task w ↦ taken (task _ _) c.args.value.now c.present-present.ensures w.in-Task.is w.in_ok-task_line-in-Task.ensures w.add_task-added.ensures (ap plan_of w.draft-is) w.added-is _ c.placed.ensures
+      | in-Set+in_ok-assignment_line-in-Set w ↦ taken (assignment _ _ (sound_facts _ c.args.draft.now.valid)) c.args.value.now c.present-present.ensures w.in-Set.is w.in_ok-assignment_line-in-Set.ensures w.add_assignment-added.ensures (ap plan_of w.draft-is) w.added-is _ c.placed.ensures
+      | in-Loc+in_ok-location_line-in-Loc w ↦ taken (location _ _) c.args.value.now c.present-present.ensures w.in-Loc.is w.in_ok-location_line-in-Loc.ensures w.add_location-added.ensures (ap plan_of w.draft-is) w.added-is _ c.placed.ensures
+      | in-Inv+in_ok-invariant_line-in-Inv w ↦ taken (invariant _ _) c.args.value.now c.present-present.ensures w.in-Inv.is w.in_ok-invariant_line-in-Inv.ensures w.add_invariant-added.ensures (ap plan_of w.draft-is) w.added-is _ c.placed.ensures
+      | in-Edge+in_ok-edge_line-in-Edge w ↦ taken (edge _ _) c.args.value.now c.present-present.ensures w.in-Edge.is w.in_ok-edge_line-in-Edge.ensures w.add_edge-added.ensures (ap plan_of w.draft-is) w.added-is _ c.placed.ensures
+      | in-Clk+in_ok-clock_line-in-Clk w ↦ taken (clock _ _ (sound_facts _ c.args.draft.now.valid)) c.args.value.now c.present-present.ensures w.in-Clk.is w.in_ok-clock_line-in-Clk.ensures w.add_condition-added.ensures (ap plan_of w.draft-is) w.added-is _ c.placed.ensures
+      | in-Dif+in_ok-difference_line-in-Dif w ↦ taken (difference _ _ (sound_facts _ c.args.draft.now.valid)) c.args.value.now c.present-present.ensures w.in-Dif.is w.in_ok-difference_line-in-Dif.ensures w.add_condition-added-in-Dif.ensures (ap plan_of w.draft-is) w.added-is _ c.placed.ensures
+      | in-Val+in_ok-value_line-in-Val w ↦ taken (value _ _ (sound_facts _ c.args.draft.now.valid)) c.args.value.now c.present-present.ensures w.in-Val.is w.in_ok-value_line-in-Val.ensures w.add_condition-added-in-Val.ensures (ap plan_of w.draft-is) w.added-is _ c.placed.ensures
+      | in-Zero+in_ok-reset_line-in-Zero w ↦ taken (reset _ _) c.args.value.now c.present-present.ensures w.in-Zero.is w.in_ok-reset_line-in-Zero.ensures w.add_reset-added.ensures (ap plan_of w.draft-is) w.added-is _ c.placed.ensures
     ]
