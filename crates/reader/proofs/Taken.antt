@@ -20,14 +20,8 @@ use Rattle.grammar.proofs.Parsing.{on_ok, row_back}
 use Rattle.grammar.proofs.Appending.{clock_fits, difference_fits, value_fits}
 use Rattle.lines.specs.Values.{part_of, reset_of}
 use Rattle.reader.specs.declared.take.Taken.{Taken}
-use Rattle.reader.specs.declared.take.Taken.TheVariants.{More}
-use Rattle.reader.specs.Taking.{Takes, add_assignment, TakesValue}
+use Rattle.reader.specs.Taking.{Takes, placed, add_assignment, TakesValue}
 use Rattle.reader.proofs.Accepted.{variable_accepted, task_accepted, set_accepted, location_accepted, invariant_accepted, edge_accepted, condition_accepted, reset_accepted}
-
--- the part of a line that was read can break no rule but that of its automaton
-abbrev pub placed : Place → Result Unit Rule → Result Taken SequenceFault
-placed at (Ok _) = Ok More
-placed at (Err _) = Err (WrongAutomaton at)
 
 module _ (at : Place) (before after q : Plan) (rule : Rule) where
   -- the draft accepts the part if and only if the line is accepted

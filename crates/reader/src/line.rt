@@ -1,17 +1,18 @@
 // One line behind the counts: key, room, fields and what they do, in this order.
-ghost use Rattle.std.specs.Prelude.{◌≡◌, ◌+◌, ◌≤◌, length};
+ghost use Rattle.std.specs.Prelude.{◌≡◌};
 ghost use Rattle.lexical.specs.Keys.{key_named};
-ghost use Rattle.lexical.specs.Tokens.{KeyAt, token_bytes};
+ghost use Rattle.lexical.specs.Tokens.{token_bytes};
 ghost use Rattle.sequence.specs.Model.{plan_of};
-ghost use Rattle.grammar.specs.Reading.{take_key, take_line};
+ghost use Rattle.grammar.specs.Reading.{value_place, take_key, take_line};
 ghost use Rattle.reader.specs.Taking.{Takes};
 
 use crate::stages::{has_room, is_allowed, stage};
 use crate::take::{Taken, take_value};
+use fields::text::FieldText;
 use lexical::fault::{LineFault, Place, SequenceFault};
 use lexical::key::key_named;
 use lexical::token::Token;
-use lines::counts::{key_and_value, value_place};
+use lines::counts::key_and_value;
 use sequence::draft::Draft;
 
 // A line with its key and its value.
@@ -19,11 +20,10 @@ fn take_key(
     draft: &mut Draft,
     number: usize,
     key: Token,
-    value: &[u8],
+    value: FieldText,
 ) -> Result<Taken, SequenceFault>
-    requires key_at { KeyAt 1 key }
-    requires value_len_bound { length (token_bytes key) + length value.now ≤ 40960 }
-    ensures { Takes (take_key (key_named (token_bytes key.entry)) (plan_of draft.old) number (token_bytes key.entry, value.now)) (plan_of draft.old) (plan_of draft.new) result }
+    requires { value.at ≡ value_place number (token_bytes key) }
+    ensures { Takes (take_key (key_named (token_bytes key.entry)) (plan_of draft.old) number (token_bytes key.entry, value.entry.bytes.now)) (plan_of draft.old) (plan_of draft.new) result }
 {
     let at = Place {
         line: number,
@@ -36,7 +36,7 @@ fn take_key(
     if !has_room(draft, kind) {
         return Err(SequenceFault::TooManyLines(at));
     }
-    take_value(draft, kind, value_place(key, number), value)
+    take_value(draft, kind, value)
 }
 
 // A line.
@@ -45,7 +45,6 @@ pub(crate) fn take_line(
     number: usize,
     line: &[u8],
 ) -> Result<Taken, SequenceFault>
-    requires { length line.now ≤ 40960 }
     ensures { Takes (take_line (plan_of draft.old) number line.now) (plan_of draft.old) (plan_of draft.new) result }
 {
     let (key, value) = key_and_value(line, number)?;
