@@ -1,7 +1,7 @@
 // The parts of a sequence, and the limits that each has to keep.
 #![tactic(auto)]
 
-ghost use Rattle.std.specs.Prelude.{◌≡◌, Bool};
+ghost use Rattle.std.specs.Prelude.{◌≡◌, Bool, slice_set};
 ghost use Rattle.std.specs.List.{slice_get};
 ghost use Rattle.parts.specs.declared.part.Scope.{Scope};
 ghost use Rattle.parts.specs.Limits.{group_fits, counts_fit, variable_fits, assignment_fits, reset_fits, invariant_fits, condition_fits, label_fits, task_fits, location_fits, edge_fits, present_or_none};
@@ -56,7 +56,7 @@ impl Refers for Condition {
         match *self {
             Condition::Clock(clock, _, k) => clock < clocks && k <= LAST_TICK,
             Condition::Difference(first, second, _, k) => {
-                first < clocks && second < clocks && -1_000_000_000 <= k && k <= 1_000_000_000
+                first < clocks && second < clocks && (-1_000_000_000..=1_000_000_000).contains(&k)
             }
             Condition::Variable(variable, _, _) => (variable as usize) < scope.variables,
         }
@@ -67,10 +67,16 @@ impl Refers for Condition {
 pub fn item<T: Copy>(row: &[T], place: usize) -> Option<T>
     ensures { result ≡ slice_get row.now place }
 {
+    row.get(place).copied()
+}
+
+// Puts a value at a place; behind the end nothing changes.
+pub fn set_item<T: Copy>(row: &mut [T], place: usize, x: T)
+    ensures { row.new ≡ slice_set row.old place x }
+{
+    // by place: the library's `get_mut` says nothing of what the slice ends as
     if place < row.len() {
-        Some(row[place])
-    } else {
-        None
+        row[place] = x;
     }
 }
 
@@ -78,10 +84,7 @@ pub fn item<T: Copy>(row: &[T], place: usize) -> Option<T>
 fn is_there(number: Option<u8>, count: usize) -> bool
     ensures { result ≡ present_or_none number count }
 {
-    match number {
-        None => true,
-        Some(n) => (n as usize) < count,
-    }
+    number.is_none_or(|n| (n as usize) < count)
 }
 
 // Whether the first places of a group are in use and each part in it fits.
@@ -93,10 +96,7 @@ pub fn group_fits<T: Refers>(row: &[Option<T>], scope: &Scope) -> bool
         match part {
             None => over = true,
             Some(x) => {
-                if over {
-                    return false;
-                }
-                if !x.fits_in(scope) {
+                if over || !x.fits_in(scope) {
                     return false;
                 }
             }
@@ -109,8 +109,7 @@ impl Counts {
     pub fn fit(&self) -> bool
         ensures { result ≡ counts_fit self.now }
     {
-        1 <= self.automata
-            && self.automata <= 8
+        (1..=8).contains(&self.automata)
             && self.clocks <= 16
             && self.triggers <= 16
             && self.channels <= 8
@@ -121,7 +120,7 @@ impl Variable {
     pub fn fits(&self) -> bool
         ensures { result ≡ variable_fits self.now }
     {
-        self.low <= self.start && self.start <= self.high
+        (self.low..=self.high).contains(&self.start)
     }
 }
 
@@ -132,8 +131,7 @@ impl Label {
         match *self {
             Label::Internal => true,
             Label::Trigger(n) => n < scope.counts.triggers,
-            Label::Send(n) => n < scope.counts.channels,
-            Label::Receive(n) => n < scope.counts.channels,
+            Label::Send(n) | Label::Receive(n) => n < scope.counts.channels,
         }
     }
 }
@@ -142,8 +140,7 @@ impl Task {
     pub fn fits(&self, scope: &Scope) -> bool
         ensures { result ≡ task_fits scope.now self.now }
     {
-        1 <= self.cost
-            && self.cost <= self.deadline
+        (1..=self.deadline).contains(&self.cost)
             && self.deadline <= 1_000_000
             && group_fits(&self.assignments, scope)
     }

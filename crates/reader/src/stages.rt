@@ -1,14 +1,13 @@
 // Which lines may follow what was read so far, and which have room.
 ghost use Rattle.std.specs.Prelude.{◌≡◌};
 ghost use Rattle.sequence.specs.Model.{plan_of};
-ghost use Rattle.sequence.specs.Growing.{has_room};
 ghost use Rattle.grammar.specs.Reading.{edge_stage, stage_of, stage_rank, allowed_at, set_room, room};
 
 use grammar::stage::Stage;
 use lexical::key::Key;
 use parts::part::Edge;
 use sequence::draft::Draft;
-use sequence::group::{last, used_places};
+use sequence::group::{self, last, used_places};
 
 // How far the lines of the last edge have come.
 fn edge_stage(edge: Option<Edge>) -> Stage
@@ -53,21 +52,14 @@ pub(crate) fn is_allowed(key: Key, stage: Stage, whole: bool) -> bool
     }
 }
 
-// Whether a group has a free place.
-fn has_room_in<T: Copy, const N: usize>(group: &[Option<T>; N]) -> bool
-    ensures { result ≡ has_room N group.now }
-{
-    used_places(group) < N
-}
-
 // Whether the last task, or the last edge where there is one, has room for an assignment more.
 fn set_has_room(draft: &Draft) -> bool
     ensures { result ≡ set_room (plan_of draft.now) }
 {
     if draft.edges().is_empty() {
-        last(draft.tasks()).is_some_and(|task| has_room_in(&task.assignments))
+        last(draft.tasks()).is_some_and(|task| group::has_room(&task.assignments))
     } else {
-        last(draft.edges()).is_some_and(|edge| has_room_in(&edge.assignments))
+        last(draft.edges()).is_some_and(|edge| group::has_room(&edge.assignments))
     }
 }
 
@@ -82,12 +74,12 @@ pub(crate) fn has_room(draft: &Draft, key: Key) -> bool
         Key::Set => set_has_room(draft),
         Key::Loc => draft.locations().len() < 64,
         Key::Inv => {
-            last(draft.locations()).is_some_and(|location| has_room_in(&location.invariants))
+            last(draft.locations()).is_some_and(|location| group::has_room(&location.invariants))
         }
         Key::Edge => draft.edges().len() < 128,
         Key::Clk | Key::Dif | Key::Val => {
-            last(draft.edges()).is_some_and(|edge| has_room_in(&edge.guard))
+            last(draft.edges()).is_some_and(|edge| group::has_room(&edge.guard))
         }
-        Key::Zero => last(draft.edges()).is_some_and(|edge| has_room_in(&edge.resets)),
+        Key::Zero => last(draft.edges()).is_some_and(|edge| group::has_room(&edge.resets)),
     }
 }

@@ -1,7 +1,5 @@
 -- What a sound plan says, and that each part that is added keeps it sound.
-use Rattle.std.proofs.Common.{◌≡◌, ℕ, zero, suc, ◌+◌, ◌-◌, ◌<◌, ◌≤◌, Bool, true, List, [], ◌∷◌, ◌++◌, length, Some, None, sym, refl, ap, ◌∙◌, arith}
-use Rattle.std.specs.List.{slice_get}
-use Rattle.std.proofs.lemmas.Option.{slice_get-get_or}
+use Rattle.std.proofs.Common.{◌≡◌, ℕ, ◌+◌, ◌<◌, ◌≤◌, Bool, true, List, [], ◌∷◌, ◌++◌, length, sym, refl, ap, arith}
 use Rattle.std.proofs.lemmas.List.{nil_from_length, length_push}
 use Rattle.std.proofs.lemmas.Bool.{and_parts, and_from, leb-true, le-leb, ltb-true}
 use Rattle.parts.specs.declared.part.Counts.{Counts}
@@ -10,6 +8,8 @@ use Rattle.parts.specs.declared.part.Task.{Task}
 use Rattle.parts.specs.declared.part.Location.{Location}
 use Rattle.parts.specs.declared.part.Edge.{Edge}
 use Rattle.parts.specs.Limits.{counts_fit, variable_fits, task_fits, location_fits, edge_fits}
+use Rattle.sequence.specs.declared.lists.Lists.{Lists}
+use Rattle.sequence.specs.Listed.{Empty, plan_at}
 use Rattle.sequence.specs.Plan.{Plan, scope, each, ends_fit, reached, next_of, in_turn, sound}
 use Rattle.sequence.specs.Building.{begun, with_variable, with_task, with_location, with_edge, next_automaton}
 
@@ -145,36 +145,13 @@ module _ (p : Plan) (s : Sound p) where
     ends = each_push (ends_fit p.locations) p.edges e s.ends ends;
   })
 
--- the last location tells how many automata are reached
+-- with no location none is reached
 pub reached_none : (ls : List Location) → length ls ≡ 0 → 0 ≡ reached 0 ls
 reached_none ls h = sym (ap (reached 0) (nil_from_length ls h))
 
-reached_at : (n : ℕ) (ls : List Location) (i : ℕ) (l : Location) → length ls ≡ suc i → slice_get ls i ≡ Some l → l.automaton + 1 ≡ reached n ls
-reached_at n [] i l h e = absurd (omega arith)
-reached_at n (k ∷ ks) zero l h e =
-    let s : k ≡ l = cc in
-    let z : ks ≡ [] = nil_from_length ks (omega arith) in
-    ap (λ m. m.automaton + 1) (sym s) ∙ sym (ap (reached (k.automaton + 1)) z)
-reached_at n (k ∷ ks) (suc i) l h e = reached_at (k.automaton + 1) ks i l (omega arith) e
-
-pub reached_last : (ls : List Location) (l : Location) → (length ls ≡ 0 → ⊥) → Some l ≡ slice_get ls (length ls - 1) → l.automaton + 1 ≡ reached 0 ls
-reached_last ls l h e = reached_at 0 ls (length ls - 1) l (omega arith) (sym e)
-
-pub last_there : (ls : List Location) → (length ls ≡ 0 → ⊥) → None ≡ slice_get ls (length ls - 1) → ⊥
-last_there [] h e = h refl
-last_there (k ∷ ks) h e =
-    let i : length (k ∷ ks) - 1 < length (k ∷ ks) = omega arith in
-    let s = slice_get-get_or (k ∷ ks) (length (k ∷ ks) - 1) k i in
-    let z : ◌≡◌ {A = ℕ} 0 1 = cc in omega arith
-
 -- nothing but counts
-pub begun_is : (k : Counts) (vs : List Variable) (ts : List Task) (ls : List Location) (es : List Edge) → length vs ≡ 0 → length ts ≡ 0 → length ls ≡ 0 → length es ≡ 0 → begun k ≡ record { counts = k; variables = vs; tasks = ts; locations = ls; edges = es }
-begun_is k vs ts ls es v t l e =
-    let a = nil_from_length vs v in
-    let b = nil_from_length ts t in
-    let c = nil_from_length ls l in
-    let d = nil_from_length es e in
-    simp (a, b, c, d)
+pub begun_at : (k : Counts) (l : Lists) → Empty l → begun k ≡ plan_at k l
+begun_at k l e = simp (e.variables, e.tasks, e.locations, e.edges)
 
 pub begun_sound : (k : Counts) → counts_fit k ≡ true → sound (begun k) ≡ true
 begun_sound k h = sound_from (begun k) (record {

@@ -1,5 +1,5 @@
 -- The last part of a kind grows: one more assignment, invariant, condition or clock to zero in the first free place of its group.
-use Rattle.std.specs.Prelude.{ℕ, Bool, cond, ◌&&◌, List, [], ◌∷◌, length, Some, None, Ok, Err, Option, Result, nat_lt}
+use Rattle.std.specs.Prelude.{◌≡◌, ℕ, Bool, cond, ◌&&◌, List, [], ◌∷◌, length, Some, None, Ok, Err, Option, Result, nat_lt}
 use Rattle.parts.specs.declared.part.Assignment.{Assignment}
 use Rattle.parts.specs.declared.part.Reset.{Reset}
 use Rattle.parts.specs.declared.part.Condition.{Condition}
@@ -70,9 +70,18 @@ with_last_edge f p = record { counts = p.counts; variables = p.variables; tasks 
 
 -- ---- growing: there has to be a last part and nothing behind it, its group has room, and what is added fits
 
-abbrev pub grown : {X : Type 0} → Option X → (room : X → Bool) → (fits : Bool) → Plan → Rule → Result Plan Rule
-grown None room fits p rule = Err OutOfTurn
-grown (Some x) room fits p rule = cond (room x) (cond fits (Ok p) (Err rule)) (Err TooMany)
+abbrev pub grown : {X Y : Type 0} → Option X → (room : X → Bool) → (fits : Bool) → Y → Rule → Result Y Rule
+grown None room fits y rule = Err OutOfTurn
+grown (Some x) room fits y rule = cond (room x) (cond fits (Ok y) (Err rule)) (Err TooMany)
+
+-- the last of a list grows
+abbrev pub last_grown : {X : Type 0} → (room : X → Bool) → (fits : Bool) → (X → X) → Rule → List X → Result (List X) Rule
+last_grown room fits more rule xs = grown (last_of xs) room fits (change_last more xs) rule
+
+-- a list became what the outcome says, or its rule is named and nothing changed
+abbrev pub Becomes : {Y : Type 0} → (outcome : Result Y Rule) → (before after : Y) → Result Unit Rule → Type 0
+Becomes outcome before after (Ok _) = outcome ≡ Ok after
+Becomes outcome before after (Err rule) = (outcome ≡ Err rule) × (after ≡ before)
 
 abbrev pub add_task_assignment : Plan → Assignment → Result Plan Rule
 add_task_assignment p a =

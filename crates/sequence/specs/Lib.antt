@@ -1,5 +1,6 @@
 pub mod Plan
 pub mod Building
+pub mod Listed
 pub mod Model
 pub mod Memories
 pub mod Whole

@@ -4,7 +4,7 @@ use Rattle.sequence.specs.declared.memory.Memory.{Memory}
 
 -- nothing in it, and places for 16 variables, 16 tasks, 64 locations and 128 edges
 pub record RoomyAndEmpty (m : Memory) : Type 0 where
-  pub variables : (vec_items m.variables ≡ []) × (16 ≤ vec_capacity m.variables)
-  pub tasks : (vec_items m.tasks ≡ []) × (16 ≤ vec_capacity m.tasks)
-  pub locations : (vec_items m.locations ≡ []) × (64 ≤ vec_capacity m.locations)
-  pub edges : (vec_items m.edges ≡ []) × (128 ≤ vec_capacity m.edges)
+  pub variables : (vec_items m.lists.variables ≡ []) × (16 ≤ vec_capacity m.lists.variables)
+  pub tasks : (vec_items m.lists.tasks ≡ []) × (16 ≤ vec_capacity m.lists.tasks)
+  pub locations : (vec_items m.lists.locations ≡ []) × (64 ≤ vec_capacity m.lists.locations)
+  pub edges : (vec_items m.lists.edges ≡ []) × (128 ≤ vec_capacity m.lists.edges)

@@ -1,11 +1,12 @@
 -- What a draft and a sequence hold, as the lists of their parts.
-use Rattle.std.specs.Prelude.{◌≡◌, Ok, Err, vec_items, Result}
+use Rattle.std.specs.Prelude.{◌≡◌, Ok, Err, Result}
 use Rattle.parts.specs.declared.part.Rule.{Rule}
 use Rattle.sequence.specs.declared.draft.Draft.{Draft}
 use Rattle.sequence.specs.Plan.{Plan}
+use Rattle.sequence.specs.Listed.{plan_at}
 
 abbrev pub plan_of : Draft → Plan
-plan_of d = record { counts = d.counts; variables = vec_items d.variables; tasks = vec_items d.tasks; locations = vec_items d.locations; edges = vec_items d.edges }
+plan_of d = plan_at d.counts d.lists
 
 -- a part was added as the outcome says, or its rule is named and nothing changed
 abbrev pub Adds : (outcome : Result Plan Rule) → (before after : Plan) → Result Unit Rule → Type 0

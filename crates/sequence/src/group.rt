@@ -1,31 +1,35 @@
 // Groups of places of which the first are in use, and the last part of a list.
-ghost use Rattle.std.specs.Prelude.{◌≡◌, length, vec_capacity};
-ghost use Rattle.sequence.specs.Growing.{used, fill, last_of, change_last};
-
-use parts::item;
+ghost use Rattle.std.specs.Prelude.{◌≡◌, length, is_none};
+ghost use Rattle.std.specs.List.{position};
+ghost use Rattle.sequence.specs.Growing.{used, fill, last_of, has_room};
 
 // How many places of a group are in use.
 pub fn used_places<T: Copy>(row: &[Option<T>]) -> usize
     ensures { result ≡ length (used row.now) }
 {
-    let mut count = 0;
-    for part in row {
-        if part.is_some() {
-            count += 1;
-        }
-    }
-    count
+    row.iter().filter(|place| place.is_some()).count()
+}
+
+// Whether a group has a place left.
+pub fn has_room<T: Copy, const N: usize>(group: &[Option<T>; N]) -> bool
+    ensures { result ≡ has_room N group.now }
+{
+    used_places(group) < N
+}
+
+// The first free place of a group, or none.
+fn first_free<T: Copy>(row: &[Option<T>]) -> Option<usize>
+    ensures { result ≡ position is_none row.now }
+{
+    row.iter().position(|place| place.is_none())
 }
 
 // Puts a part into the first free place of a group.
 pub(crate) fn fill<T: Copy>(row: &mut [Option<T>], part: T)
     ensures { row.new ≡ fill part row.old }
 {
-    for i in 0..row.len() {
-        if row[i].is_none() {
-            row[i] = Some(part);
-            return;
-        }
+    if let Some(free) = first_free(row) {
+        row[free] = Some(part);
     }
 }
 
@@ -33,20 +37,5 @@ pub(crate) fn fill<T: Copy>(row: &mut [Option<T>], part: T)
 pub fn last<T: Copy>(row: &[T]) -> Option<T>
     ensures { result ≡ last_of row.now }
 {
-    if row.len() == 0 {
-        None
-    } else {
-        item(row, row.len() - 1)
-    }
-}
-
-// Puts a part in the place of the last one.
-pub(crate) fn put_last<T: Copy>(row: &mut Vec<T>, part: T)
-    ensures items { row.new.items ≡ change_last (λ _. part) row.old.items }
-    ensures capacity { vec_capacity row.new ≡ vec_capacity row.old }
-{
-    if row.len() != 0 {
-        row.take_last();
-        row.push_reserved(part);
-    }
+    row.last().copied()
 }

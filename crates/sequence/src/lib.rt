@@ -5,6 +5,7 @@ ghost use Rattle.std.specs.Prelude.{◌≡◌, true, false, IfOk, Ok, Err, Match
 ghost use Rattle.std.specs.List.{slice_get};
 ghost use Rattle.sequence.specs.Plan.{scope, reached, automaton_of, ends_fit, complete};
 ghost use Rattle.sequence.specs.Building.{begin, add_variable, add_task, add_location, add_edge, next_automaton};
+ghost use Rattle.sequence.specs.Listed.{Empty};
 ghost use Rattle.sequence.specs.Model.{plan_of, Adds};
 ghost use Rattle.sequence.specs.Memories.{RoomyAndEmpty};
 ghost use Rattle.sequence.specs.Whole.{plan};
@@ -13,10 +14,14 @@ ghost use Rattle.sequence.specs.Rebuilding.{EverySequenceIsBuilt};
 pub mod draft;
 pub mod group;
 pub mod grow;
+mod grows;
+mod lists;
 pub mod memory;
 pub mod whole;
 
 use draft::Draft;
+use group::last;
+use lists::Lists;
 use memory::Memory;
 use parts::item;
 use parts::part::{Counts, Edge, Location, Rule, Scope, Task, Variable};
@@ -27,20 +32,41 @@ use whole::Sequence;
 #[derive(Drop)]
 pub struct BadCounts(pub Memory);
 
-impl Memory {
-    // The one place where memory is got: room for all that a sequence can hold, and nothing in it.
-    pub fn new(heap: Global) -> Result<Self, AllocError>
-        ensures { IfOk result (λ m. RoomyAndEmpty m) }
+impl Lists {
+    // Room for all that a sequence can hold, and nothing in it.
+    fn new(heap: Global) -> Result<Self, AllocError>
+        ensures { IfOk result (λ l. Empty l) }
     {
         let variables = Vec::with_capacity(heap, 16)?;
         let tasks = Vec::with_capacity(heap, 16)?;
         let locations = Vec::with_capacity(heap, 64)?;
         let edges = Vec::with_capacity(heap, 128)?;
-        Ok(Memory {
+        Ok(Lists {
             variables,
             tasks,
             locations,
             edges,
+        })
+    }
+
+    // Drops all parts.
+    fn clear(&mut self)
+        ensures { Empty self.new }
+    {
+        self.variables.clear();
+        self.tasks.clear();
+        self.locations.clear();
+        self.edges.clear();
+    }
+}
+
+impl Memory {
+    // The one place where memory is got: room for all that a sequence can hold, and nothing in it.
+    pub fn new(heap: Global) -> Result<Self, AllocError>
+        ensures { IfOk result (λ m. RoomyAndEmpty m) }
+    {
+        Ok(Memory {
+            lists: Lists::new(heap)?,
         })
     }
 }
@@ -53,18 +79,9 @@ impl Draft {
         if !counts.fit() {
             return Err(BadCounts(memory));
         }
-        let Memory {
-            variables,
-            tasks,
-            locations,
-            edges,
-        } = memory;
         Ok(Draft {
             counts,
-            variables,
-            tasks,
-            locations,
-            edges,
+            lists: memory.lists,
         })
     }
 
@@ -72,23 +89,9 @@ impl Draft {
     pub fn into_memory(self) -> Memory
         ensures { RoomyAndEmpty result }
     {
-        let Draft {
-            counts: _,
-            mut variables,
-            mut tasks,
-            mut locations,
-            mut edges,
-        } = self;
-        variables.clear();
-        tasks.clear();
-        locations.clear();
-        edges.clear();
-        Memory {
-            variables,
-            tasks,
-            locations,
-            edges,
-        }
+        let mut lists = self.lists;
+        lists.clear();
+        Memory { lists }
     }
 
     // Whether every automaton has a location.
@@ -102,7 +105,7 @@ impl Draft {
     pub fn finish(self) -> Result<Sequence, Draft>
         ensures { MatchResult result (λ s. (plan s ≡ plan_of self) × (complete (plan_of self) ≡ true)) (λ d. (d ≡ self) × (complete (plan_of self) ≡ false)) }
     {
-        if self.reached() != self.counts.automata as u16 {
+        if !self.is_complete() {
             return Err(self);
         }
         Ok(Sequence { draft: self })
@@ -114,8 +117,8 @@ impl Draft {
     {
         Scope {
             counts: self.counts,
-            variables: self.variables.len(),
-            tasks: self.tasks.len(),
+            variables: self.lists.variables.len(),
+            tasks: self.lists.tasks.len(),
         }
     }
 
@@ -123,44 +126,47 @@ impl Draft {
     pub fn variables(&self) -> &[Variable]
         ensures { result.now ≡ (plan_of self.now).variables }
     {
-        &self.variables
+        &self.lists.variables
     }
 
     // All tasks so far, by number.
     pub fn tasks(&self) -> &[Task]
         ensures { result.now ≡ (plan_of self.now).tasks }
     {
-        &self.tasks
+        &self.lists.tasks
     }
 
     // All locations so far, by number.
     pub fn locations(&self) -> &[Location]
         ensures { result.now ≡ (plan_of self.now).locations }
     {
-        &self.locations
+        &self.lists.locations
     }
 
     // All edges so far, by number.
     pub fn edges(&self) -> &[Edge]
         ensures { result.now ≡ (plan_of self.now).edges }
     {
-        &self.edges
+        &self.lists.edges
     }
 
     // One variable more.
     pub fn add_variable(&mut self, variable: Variable) -> Result<(), Rule>
         ensures { Adds (add_variable (plan_of self.old) variable) (plan_of self.old) (plan_of self.new) result }
     {
-        if self.tasks.len() != 0 || self.locations.len() != 0 || self.edges.len() != 0 {
+        if !self.lists.tasks.is_empty()
+            || !self.lists.locations.is_empty()
+            || !self.lists.edges.is_empty()
+        {
             return Err(Rule::OutOfTurn);
         }
-        if self.variables.len() >= 16 {
+        if self.lists.variables.len() >= 16 {
             return Err(Rule::TooMany);
         }
         if !variable.fits() {
             return Err(Rule::BadVariable);
         }
-        self.variables.push_reserved(variable);
+        self.lists.variables.push_reserved(variable);
         Ok(())
     }
 
@@ -168,16 +174,16 @@ impl Draft {
     pub fn add_task(&mut self, task: Task) -> Result<(), Rule>
         ensures { Adds (add_task (plan_of self.old) task) (plan_of self.old) (plan_of self.new) result }
     {
-        if self.locations.len() != 0 || self.edges.len() != 0 {
+        if !self.lists.locations.is_empty() || !self.lists.edges.is_empty() {
             return Err(Rule::OutOfTurn);
         }
-        if self.tasks.len() >= 16 {
+        if self.lists.tasks.len() >= 16 {
             return Err(Rule::TooMany);
         }
         if !task.fits(&self.scope()) {
             return Err(Rule::BadTask);
         }
-        self.tasks.push_reserved(task);
+        self.lists.tasks.push_reserved(task);
         Ok(())
     }
 
@@ -185,10 +191,10 @@ impl Draft {
     pub fn add_location(&mut self, location: Location) -> Result<(), Rule>
         ensures { Adds (add_location (plan_of self.old) location) (plan_of self.old) (plan_of self.new) result }
     {
-        if self.edges.len() != 0 {
+        if !self.lists.edges.is_empty() {
             return Err(Rule::OutOfTurn);
         }
-        if self.locations.len() >= 64 {
+        if self.lists.locations.len() >= 64 {
             return Err(Rule::TooMany);
         }
         if !location.fits(&self.scope()) {
@@ -197,7 +203,7 @@ impl Draft {
         if !self.is_next(location.automaton) {
             return Err(Rule::BadAutomaton);
         }
-        self.locations.push_reserved(location);
+        self.lists.locations.push_reserved(location);
         Ok(())
     }
 
@@ -205,7 +211,7 @@ impl Draft {
     pub fn add_edge(&mut self, edge: Edge) -> Result<(), Rule>
         ensures { Adds (add_edge (plan_of self.old) edge) (plan_of self.old) (plan_of self.new) result }
     {
-        if self.edges.len() >= 128 {
+        if self.lists.edges.len() >= 128 {
             return Err(Rule::TooMany);
         }
         if !edge.fits(&self.scope()) {
@@ -214,22 +220,15 @@ impl Draft {
         if !self.ends_fit(&edge) {
             return Err(Rule::BadEnds);
         }
-        self.edges.push_reserved(edge);
+        self.lists.edges.push_reserved(edge);
         Ok(())
     }
 
     // How many automata have a location.
     fn reached(&self) -> u16
-        ensures { result ≡ reached 0 self.now.locations.items }
+        ensures { result ≡ reached 0 self.now.lists.locations.items }
     {
-        let count = self.locations.len();
-        if count == 0 {
-            return 0;
-        }
-        match item(&self.locations, count - 1) {
-            None => 0,
-            Some(location) => location.automaton as u16 + 1,
-        }
+        last(&self.lists.locations).map_or(0, |location| location.automaton as u16 + 1)
     }
 
     // Whether the next location may be of an automaton.
@@ -244,22 +243,17 @@ impl Draft {
 
     // The automaton of a location that is there.
     fn automaton_of(&self, location: u8) -> Option<u8>
-        ensures { result ≡ automaton_of (slice_get self.now.locations.items location) }
+        ensures { result ≡ automaton_of (slice_get self.now.lists.locations.items location) }
     {
-        match item(&self.locations, location as usize) {
-            None => None,
-            Some(location) => Some(location.automaton),
-        }
+        item(&self.lists.locations, location as usize).map(|location| location.automaton)
     }
 
     // Whether both ends of an edge are locations of one automaton.
     fn ends_fit(&self, edge: &Edge) -> bool
-        ensures { result ≡ ends_fit self.now.locations.items edge.now }
+        ensures { result ≡ ends_fit self.now.lists.locations.items edge.now }
     {
-        match (self.automaton_of(edge.from), self.automaton_of(edge.to)) {
-            (Some(a), Some(b)) => a == b,
-            _ => false,
-        }
+        let from = self.automaton_of(edge.from);
+        from.is_some() && from == self.automaton_of(edge.to)
     }
 }
 
@@ -274,28 +268,28 @@ impl Sequence {
     pub fn variables(&self) -> &[Variable]
         ensures { result.now ≡ (plan self.now).variables }
     {
-        &self.draft.variables
+        self.draft.variables()
     }
 
     // All tasks, by number.
     pub fn tasks(&self) -> &[Task]
         ensures { result.now ≡ (plan self.now).tasks }
     {
-        &self.draft.tasks
+        self.draft.tasks()
     }
 
     // All locations, by number.
     pub fn locations(&self) -> &[Location]
         ensures { result.now ≡ (plan self.now).locations }
     {
-        &self.draft.locations
+        self.draft.locations()
     }
 
     // All edges, by number.
     pub fn edges(&self) -> &[Edge]
         ensures { result.now ≡ (plan self.now).edges }
     {
-        &self.draft.edges
+        self.draft.edges()
     }
 
     // The variable of a number, or none.

@@ -5,7 +5,6 @@ use parts::part::{
     Assignment, Condition, Counts, Edge, Invariant, Label, Location, Relation, Reset, Rule, Task,
     Variable,
 };
-use sequence::BadCounts;
 use sequence::draft::Draft;
 use sequence::memory::Memory;
 use sequence::whole::Sequence;
@@ -29,10 +28,7 @@ fn word(answer: Result<(), Rule>) -> &'static str {
 
 // A draft of these counts, or none where they are refused.
 fn begun(heap: Global, counts: Counts) -> Result<Option<Draft>, AllocError> {
-    match Draft::begin(Memory::new(heap)?, counts) {
-        Ok(draft) => Ok(Some(draft)),
-        Err(BadCounts(_)) => Ok(None),
-    }
+    Ok(Draft::begin(Memory::new(heap)?, counts).ok())
 }
 
 fn counts(automata: u8, clocks: u8, triggers: u8, channels: u8) -> Counts {
@@ -136,7 +132,7 @@ fn small(heap: Global) -> Result<Option<Draft>, AllocError> {
         && draft.add_location(location(0)).is_ok()
         && draft.add_location(location(0)).is_ok()
         && draft.add_location(location(1)).is_ok();
-    Ok(if all { Some(draft) } else { None })
+    Ok(all.then_some(draft))
 }
 
 // The sequence of a draft that has all its parts.
@@ -170,17 +166,11 @@ fn there(whole: &Sequence, variable: u8, task: u8, location: u8, edge: u8) -> [b
 }
 
 fn automaton(whole: &Sequence, location: u8) -> Option<u8> {
-    match whole.location(location) {
-        Some(location) => Some(location.automaton),
-        None => None,
-    }
+    whole.location(location).map(|location| location.automaton)
 }
 
 fn clock(reset: Option<Reset>) -> Option<u8> {
-    match reset {
-        Some(reset) => Some(reset.clock),
-        None => None,
-    }
+    reset.map(|reset| reset.clock)
 }
 
 fn is_own_difference(condition: Option<Condition>) -> bool {

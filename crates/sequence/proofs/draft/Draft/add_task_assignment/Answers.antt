@@ -1,37 +1,31 @@
-use Rattle.std.proofs.Common.{◌≡◌, ◌<◌, true, List, length, Some, Ok, vec_items, sym, ap, ◌∙◌, subst, arith}
+use Rattle.std.proofs.Common.{◌≡◌, length, sym, ap, arith}
+use Rattle.std.proofs.lemmas.Bool.{and_from, cond-true, eqb-true}
 use Rattle.parts.specs.declared.part.Task.{Task}
+use Rattle.parts.specs.declared.part.Rule.TheVariants.{BadTask}
 use Rattle.parts.specs.Limits.{assignment_fits}
-use Rattle.sequence.specs.Plan.{sound, scope}
-use Rattle.sequence.specs.Growing.{used, last_of, change_last, assigning_task}
+use Rattle.sequence.specs.Plan.{scope}
+use Rattle.sequence.specs.Growing.{has_room, assigning_task}
 use Rattle.sequence.specs.Model.{plan_of}
 use Rattle.sequence.proofs.Sound.{sound_facts}
 use Rattle.sequence.proofs.Growing.{task_assigns}
-use Rattle.sequence.proofs.Filling.{put_is, task_grown}
+use Rattle.sequence.proofs.Filling.{adds_is, none_there, at_tasks, plan_grows, grows_sound}
 use Rattle.sequence.proofs.draft.Draft.add_task_assignment.Goals as goal
 
 pub invariant_of-self : goal.invariant_of-self
 invariant_of-self c =
     let d = c.args.self.now in
     let p = plan_of d in
-    let a = c.args.assignment in
-    let t = c.in-Some.task in
-    let o : last_of p.tasks ≡ Some t = sym (ap last_of c.deref.ensures.value) ∙ (sym c.last.ensures ∙ c.in-Some.is) in
-    let e : vec_items c.put_last.new.row ≡ change_last (assigning_task a) p.tasks = put_is (assigning_task a) p.tasks (vec_items c.put_last.new.row) t c.assigning_task.result o c.assigning_task.ensures c.put_last.ensures.items in
-    let fits : assignment_fits (scope p) a ≡ true = sym (ap (λ s. assignment_fits s a) c.scope.ensures) ∙ sym c.if-not-fits_in.ensures in record {
-      valid = subst (λ (xs : List Task). sound (record { counts = p.counts; variables = p.variables; tasks = xs; locations = p.locations; edges = p.edges }) ≡ true)
-          (sym e) (task_assigns p (sound_facts p d.valid) a fits);
-      room = (d.room.0, omega (arith, c.put_last.ensures.capacity, d.room.1), d.room.2, d.room.3);
-    }
+    let a = c.args.assignment in (
+      ((d.lists.room.0, omega (arith, c.grow_last.ensures.capacity, d.lists.room.1), d.lists.room.2, d.lists.room.3), tt),
+      (grows_sound (at_tasks p) p.tasks c.grow_last.new.list.items (λ (t : Task). has_room 4 t.assignments) (assigning_task a) BadTask (assignment_fits c.scope-scope.result a) (assignment_fits (scope p) a) (ap (λ s. assignment_fits s a) c.scope-scope.ensures) c.grow_last.result c.grow_last.ensures.grows d.valid (task_assigns p (sound_facts p d.valid) a), tt),
+    )
 
 pub returns : goal.returns
 returns c =
     let d = c.args.self.now in
     let p = plan_of d in
     let a = c.args.assignment in
-    let t = c.in-Some.task in
-    let o : last_of p.tasks ≡ Some t = sym (ap last_of c.deref.ensures.value) ∙ (sym c.last.ensures ∙ c.in-Some.is) in
-    let e : vec_items c.put_last.new.row ≡ change_last (assigning_task a) p.tasks = put_is (assigning_task a) p.tasks (vec_items c.put_last.new.row) t c.assigning_task.result o c.assigning_task.ensures c.put_last.ensures.items in
-    let fits : assignment_fits (scope p) a ≡ true = sym (ap (λ s. assignment_fits s a) c.scope.ensures) ∙ sym c.if-not-fits_in.ensures in
-    let few : length (used t.assignments) < 4 = omega (arith, c.used_places.ensures) in
-    task_grown p a t (omega (arith, d.locations.ok.0)) (omega (arith, d.edges.ok.0)) o few fits
-    ∙ ap (λ (xs : List Task). Ok (record { counts = p.counts; variables = p.variables; tasks = xs; locations = p.locations; edges = p.edges })) (sym e)
+    let l : length p.locations ≡ 0 = omega (arith, d.lists.locations.ok.0, eqb-true _ _ (sym c.if-not-is_empty.ensures)) in
+    let e : length p.edges ≡ 0 = omega (arith, d.lists.edges.ok.0, eqb-true _ _ (sym c.if-not-is_empty-2.ensures)) in
+    adds_is _ _ _ _ _ (cond-true _ _ _ (and_from _ _ (none_there p.locations l) (none_there p.edges e)))
+    (plan_grows (at_tasks p) p.tasks c.grow_last.new.list.items (λ (t : Task). has_room 4 t.assignments) (assigning_task a) BadTask (assignment_fits c.scope-scope.result a) (assignment_fits (scope p) a) (ap (λ s. assignment_fits s a) c.scope-scope.ensures) c.grow_last.result c.grow_last.ensures.grows)
