@@ -1,2 +1,4 @@
 pub mod Counting
 pub mod Splitting
+pub mod Filling
+mod Words

@@ -13,6 +13,3 @@ at_least_one b t = go (pieces b t) (pieces_some b t)
     go : (ps : List (List ℕ)) → some ps ≡ true → 0 < length ps
     go [] h = absurd (let z : ◌≡◌ {A = ℕ} 0 1 = cc in omega arith)
     go (p ∷ ps) h = omega arith
-
-pub cut_more : (b : ℕ) (t : List ℕ) (p : List ℕ × List ℕ) → cut b t ≡ Some p → 1 < length (pieces b t)
-cut_more b t p e = omega (arith, ap length (pieces_cut b t p e), at_least_one b p.1)

@@ -1,9 +1,10 @@
 -- A value in a number of fields, each as a token at its column.
-use Rattle.std.specs.Prelude.{◌≡◌, ℕ, ◌+◌, List, [], ◌∷◌, length, ◌≢◌}
+use Rattle.std.specs.Prelude.{◌≡◌, ℕ, List, [], ◌∷◌, length, Option, Some, None, ◌≢◌}
 use Rattle.lexical.specs.declared.fault.Place.{Place}
 use Rattle.lexical.specs.declared.fault.LineFault.{LineFault}
 use Rattle.lexical.specs.declared.fault.LineFault.TheVariants.{FieldCount}
 use Rattle.lexical.specs.declared.token.Token.{Token}
+use Rattle.fields.specs.declared.text.FieldText.{FieldText}
 use Rattle.lexical.specs.Bytes.{pieces, comma}
 use Rattle.lexical.specs.Fields.{behind}
 use Rattle.lexical.specs.Tokens.{IsToken}
@@ -12,46 +13,29 @@ use Rattle.lexical.specs.Tokens.{IsToken}
 abbrev pub Stands : Place → List ℕ → Token → Type 0
 Stands at field t = IsToken field at.column t
 
--- the first of several fields, what stands behind its comma, and at which column
-pub record FirstField (value : List ℕ) (column : ℕ) (t : Token) (rest : List ℕ) (next : ℕ) : Type 0 where
-  pub x : List ℕ
-  pub split : pieces comma value ≡ x ∷ pieces comma rest
-  pub first : IsToken x column t
-  pub moved : next ≡ column + (length x + 1)
-  pub whole : length x + (1 + length rest) ≡ length value
+-- a token for each field, from a place on
+abbrev pub AllStand : Place → List (List ℕ) → List Token → Type 0
+AllStand at [] [] = Unit {0}
+AllStand at [] (t ∷ ts) = ⊥
+AllStand at (x ∷ xs) [] = ⊥
+AllStand at (x ∷ xs) (t ∷ ts) = Stands at x t × AllStand (behind at x) xs ts
 
--- a value of one, two, three or four fields
-pub record OneField (value : List ℕ) (at : Place) (t : Token) : Type 0 where
-  pub x : List ℕ
-  pub split : pieces comma value ≡ x ∷ []
-  pub first : Stands at x t
+-- the fields that are left
+abbrev pub fields_left : Option FieldText → List (List ℕ)
+fields_left None = []
+fields_left (Some text) = pieces comma text.bytes.now
 
-pub record TwoFields (value : List ℕ) (at : Place) (t u : Token) : Type 0 where
-  pub x : List ℕ
-  pub y : List ℕ
-  pub split : pieces comma value ≡ x ∷ y ∷ []
-  pub first : Stands at x t
-  pub second : Stands (behind at x) y u
+-- what is left, if anything, begins at a place
+abbrev pub BeginsAt : Place → Option FieldText → Type 0
+BeginsAt at None = Unit {0}
+BeginsAt at (Some text) = text.at ≡ at
 
-pub record ThreeFields (value : List ℕ) (at : Place) (t u v : Token) : Type 0 where
+-- the first field, and what is left behind its comma
+pub record FirstField (text : FieldText) (t : Token) (left : Option FieldText) : Type 0 where
   pub x : List ℕ
-  pub y : List ℕ
-  pub z : List ℕ
-  pub split : pieces comma value ≡ x ∷ y ∷ z ∷ []
-  pub first : Stands at x t
-  pub second : Stands (behind at x) y u
-  pub third : Stands (behind (behind at x) y) z v
-
-pub record FourFields (value : List ℕ) (at : Place) (t u v w : Token) : Type 0 where
-  pub x : List ℕ
-  pub y : List ℕ
-  pub z : List ℕ
-  pub s : List ℕ
-  pub split : pieces comma value ≡ x ∷ y ∷ z ∷ s ∷ []
-  pub first : Stands at x t
-  pub second : Stands (behind at x) y u
-  pub third : Stands (behind (behind at x) y) z v
-  pub fourth : Stands (behind (behind (behind at x) y) z) s w
+  pub split : pieces comma text.bytes.now ≡ x ∷ fields_left left
+  pub first : Stands text.at x t
+  pub next : BeginsAt (behind text.at x) left
 
 -- the fault of a value that has another number of fields
 abbrev pub Miscounts : (many : ℕ) (value : List ℕ) → Place → LineFault → Type 0

@@ -3,4 +3,5 @@
 
 pub mod field;
 mod number;
+pub mod text;
 pub mod value;

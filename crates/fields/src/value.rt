@@ -6,7 +6,6 @@ ghost use Rattle.lexical.specs.Tokens.{IsToken};
 ghost use Rattle.lexical.specs.Fields.{reference as reference_field, optional, relation as relation_field, strictness as strictness_field, lettered as lettered_by, label as label_field};
 
 use crate::number::{integer_at, natural_at};
-use lexical::bytes::same_bytes;
 use lexical::fault::{LineFault, NumberFault, Place, SequenceFault};
 use lexical::token::{Token, token_of};
 use parts::part::{Label, Relation};
@@ -76,6 +75,7 @@ pub fn optional_reference(
 }
 
 // lt, le, eq, ge or gt.
+#[tactic(auto, using(crate::proofs::Words::no_relation))]
 pub fn relation(token: Token, line: usize) -> Result<Relation, SequenceFault>
     ensures { (field : List ℕ) (column : ℕ) → IsToken field column token.entry → result ≡ relation_field.parse (place line column) field }
 {
@@ -84,16 +84,17 @@ pub fn relation(token: Token, line: usize) -> Result<Relation, SequenceFault>
         column: token.column(),
     };
     match token {
-        Token::Word(word, _) if same_bytes(word, b"lt") => Ok(Relation::Lt),
-        Token::Word(word, _) if same_bytes(word, b"le") => Ok(Relation::Le),
-        Token::Word(word, _) if same_bytes(word, b"eq") => Ok(Relation::Eq),
-        Token::Word(word, _) if same_bytes(word, b"ge") => Ok(Relation::Ge),
-        Token::Word(word, _) if same_bytes(word, b"gt") => Ok(Relation::Gt),
+        Token::Word(b"lt", _) => Ok(Relation::Lt),
+        Token::Word(b"le", _) => Ok(Relation::Le),
+        Token::Word(b"eq", _) => Ok(Relation::Eq),
+        Token::Word(b"ge", _) => Ok(Relation::Ge),
+        Token::Word(b"gt", _) => Ok(Relation::Gt),
         _ => Err(SequenceFault::Line(LineFault::UnknownWord(at))),
     }
 }
 
 // An invariant's relation: lt is strict, le is not.
+#[tactic(auto, using(crate::proofs::Words::no_strictness))]
 pub fn strictness(token: Token, line: usize) -> Result<bool, SequenceFault>
     ensures { (field : List ℕ) (column : ℕ) → IsToken field column token.entry → result ≡ strictness_field.parse (place line column) field }
 {
@@ -102,8 +103,8 @@ pub fn strictness(token: Token, line: usize) -> Result<bool, SequenceFault>
         column: token.column(),
     };
     match token {
-        Token::Word(word, _) if same_bytes(word, b"lt") => Ok(true),
-        Token::Word(word, _) if same_bytes(word, b"le") => Ok(false),
+        Token::Word(b"lt", _) => Ok(true),
+        Token::Word(b"le", _) => Ok(false),
         _ => Err(SequenceFault::Line(LineFault::UnknownWord(at))),
     }
 }

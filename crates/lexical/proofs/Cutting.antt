@@ -1,26 +1,30 @@
 -- The search for a byte, and the pieces of a text by cuts.
-use Rattle.std.proofs.Common.{◌≡◌, ℕ, ◌+◌, ◌-◌, ◌<◌, Bool, true, false, cond, not, ◌&&◌, eqb, List, [], ◌∷◌, ◌++◌, length, get_or, take, drop, Some, None, Option, sym, refl, ap, ◌∙◌, subst, arith}
-use Rattle.std.proofs.lemmas.List.{take_more, drop_more, take-append-drop, take_rest}
-use Rattle.std.proofs.lemmas.Bool.{and_parts, and_from, cond-false, not-true, ne_eqb, not_from_false}
+use Rattle.std.proofs.Common.{◌≡◌, ◌≢◌, zero, suc, All, ℕ, ◌+◌, ◌-◌, ◌<◌, Bool, true, false, cond, not, ◌&&◌, eqb, List, [], ◌∷◌, length, get_or, take, drop, Some, None, Option, refl, ap, ◌∙◌, subst, arith}
+use Rattle.std.proofs.lemmas.List.{take_rest}
+use Rattle.std.proofs.lemmas.List.Elements.{All-head, All-tail}
+use Rattle.std.proofs.lemmas.Bool.{and_from, cond-true, cond-false, eq-eqb, ne_eqb, not_from_false}
 use Rattle.lexical.specs.Bytes.{free, cut, ahead, pieces}
-use Rattle.lexical.proofs.Parting.{cut_front, cut_back, free_append, pieces_front, pieces_alone}
+use Rattle.lexical.proofs.Parting.{cut_back, pieces_front, pieces_alone}
 
-pub free_more : (b : ℕ) (xs : List ℕ) (i : ℕ) → i < length xs → free b (take i xs) ≡ true → (get_or xs i 0 ≡ b → ⊥) → free b (take (i + 1) xs) ≡ true
-free_more b xs i h f e =
-    ap (free b) (take_more xs i 0 h) ∙ free_append b (take i xs) (get_or xs i 0 ∷ []) f (and_from (not (eqb (get_or xs i 0) b)) true (not_from_false (eqb (get_or xs i 0) b) (ne_eqb (get_or xs i 0) b e)) refl)
+-- the byte is not b
+abbrev pub IsNot : ℕ → ℕ → Type 0
+IsNot b x = x ≢ b
 
-pub cut_none : (b : ℕ) (xs : List ℕ) → free b xs ≡ true → cut b xs ≡ None
+pub cut_none : (b : ℕ) (xs : List ℕ) → All (IsNot b) xs → cut b xs ≡ None
 cut_none b [] h = refl
 cut_none b (x ∷ xs) h =
-    let p = and_parts (not (eqb x b)) (free b xs) h in
-    cond-false (eqb x b) (Some ([], xs)) (ahead x (cut b xs)) (not-true (eqb x b) p.0) ∙ ap (ahead x) (cut_none b xs p.1)
+    cond-false (eqb x b) (Some ([], xs)) (ahead x (cut b xs)) (ne_eqb x b (All-head (IsNot b) x xs h)) ∙ ap (ahead x) (cut_none b xs (All-tail (IsNot b) x xs h))
 
--- the text around its byte at i, in the words of the two slices
-pub cut_found : (b : ℕ) (xs : List ℕ) (i : ℕ) → i < length xs → free b (take i xs) ≡ true → get_or xs i 0 ≡ b → cut b xs ≡ Some (take (i - 0) xs, take (length xs - (i + 1)) (drop (i + 1) xs))
-cut_found b xs i h f e =
-    let z : i - 0 ≡ i = omega arith in
-    let whole : xs ≡ take i xs ++ (b ∷ drop (i + 1) xs) = sym (take-append-drop i xs) ∙ ap (λ (l : List ℕ). take i xs ++ l) (drop_more xs i 0 h ∙ ap (λ (y : ℕ). y ∷ drop (i + 1) xs) e) in
-    rw (z, take_rest) (ap (cut b) whole ∙ cut_front b (take i xs) (drop (i + 1) xs) f)
+cut_first : (b : ℕ) (xs : List ℕ) (i : ℕ) → i < length xs → get_or xs i 0 ≡ b → ((k : ℕ) → k < i → get_or xs k 0 ≢ b) → cut b xs ≡ Some (take i xs, drop (i + 1) xs)
+cut_first b [] i h e n = absurd (omega arith)
+cut_first b (x ∷ xs) zero h e n = cond-true (eqb x b) (Some ([], xs)) (ahead x (cut b xs)) (eq-eqb x b e)
+cut_first b (x ∷ xs) (suc i) h e n =
+    let z : suc i + 1 ≡ suc (i + 1) = omega arith in
+    rw z (cond-false (eqb x b) (Some ([], xs)) (ahead x (cut b xs)) (ne_eqb x b (n 0 (omega arith))) ∙ ap (ahead x) (cut_first b xs i (omega arith) e (λ k l. n (suc k) (omega arith))))
+
+-- the text around its first byte b, at i, in the words of the two slices
+pub cut_found : (b : ℕ) (xs : List ℕ) (i : ℕ) → i < length xs → get_or xs i 0 ≡ b → ((k : ℕ) → k < i → get_or xs k 0 ≢ b) → cut b xs ≡ Some (take i xs, take (length xs - (i + 1)) (drop (i + 1) xs))
+cut_found b xs i h e n = rw take_rest (cut_first b xs i h e n)
 
 -- what is cut off has no such byte
 pub cut_free : (b : ℕ) (t : List ℕ) (p : List ℕ × List ℕ) → cut b t ≡ Some p → free b p.0 ≡ true

@@ -1,3 +1,3 @@
 pub mod Parting
 pub mod Cutting
-pub mod Sameness
+pub mod Named

@@ -1,5 +1,5 @@
 -- Text in pieces and joined again, cut at a byte, and compared.
-use Rattle.std.proofs.Common.{◌≡◌, ℕ, Bool, true, false, cond, not, eqb, List, [], ◌∷◌, ◌++◌, Some, None, Option, sym, refl, ap, ◌∙◌, subst, arith}
+use Rattle.std.proofs.Common.{◌≡◌, ◌≢◌, ℕ, Bool, true, false, cond, not, eqb, List, [], ◌∷◌, ◌++◌, Some, None, Option, sym, refl, ap, ◌∙◌, subst, arith}
 use Rattle.std.proofs.lemmas.Bool.{and_parts, and_from, not-true, cond-true, cond-false, cond_both, eq-eqb, eqb-true}
 use Rattle.lexical.specs.Bytes.{onto, pieces, join, free, ahead, cut, same}
 
@@ -74,6 +74,13 @@ same_true (x ∷ xs) [] h = absurd (let z : ◌≡◌ {A = ℕ} 0 1 = cc in omeg
 same_true (x ∷ xs) (y ∷ ys) h =
     let p = and_parts (eqb x y) (same xs ys) h in
     ap (λ z. z ∷ xs) (eqb-true x y p.0) ∙ ap (λ zs. y ∷ zs) (same_true xs ys p.1)
+
+pub same_false : (xs ys : List ℕ) → xs ≢ ys → same xs ys ≡ false
+same_false xs ys n = go (same xs ys) refl
+  where
+    go : (c : Bool) → same xs ys ≡ c → c ≡ false
+    go true s = absurd (n (same_true xs ys s))
+    go false s = refl
 
 pub free_append : (b : ℕ) (xs ys : List ℕ) → free b xs ≡ true → free b ys ≡ true → free b (xs ++ ys) ≡ true
 free_append b [] ys h k = k

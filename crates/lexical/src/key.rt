@@ -1,8 +1,6 @@
 // The keys of the lines of a sequence text.
 ghost use Rattle.std.specs.Prelude.{◌≡◌};
-ghost use Rattle.lexical.specs.Keys.{key_named, named_among, part_keys};
-
-use crate::bytes::same_bytes;
+ghost use Rattle.lexical.specs.Keys.{key_named};
 
 #[derive(Clone, Copy, PartialEq, Eq)]
 pub enum Key {
@@ -25,63 +23,27 @@ pub enum Key {
 }
 
 // The key that bytes are, or none.
+#[tactic(auto, using(crate::proofs::Named::none_named))]
 pub fn key_named(key: &[u8]) -> Option<Key>
     ensures { result ≡ key_named key.now }
 {
-    if same_bytes(key, b"form") {
-        return Some(Key::Form);
+    match key {
+        b"form" => Some(Key::Form),
+        b"autos" => Some(Key::Autos),
+        b"clocks" => Some(Key::Clocks),
+        b"triggers" => Some(Key::Triggers),
+        b"chans" => Some(Key::Chans),
+        b"var" => Some(Key::Var),
+        b"task" => Some(Key::Task),
+        b"set" => Some(Key::Set),
+        b"loc" => Some(Key::Loc),
+        b"inv" => Some(Key::Inv),
+        b"edge" => Some(Key::Edge),
+        b"clk" => Some(Key::Clk),
+        b"dif" => Some(Key::Dif),
+        b"val" => Some(Key::Val),
+        b"zero" => Some(Key::Zero),
+        b"edges" => Some(Key::Edges),
+        _ => None,
     }
-    if same_bytes(key, b"autos") {
-        return Some(Key::Autos);
-    }
-    if same_bytes(key, b"clocks") {
-        return Some(Key::Clocks);
-    }
-    if same_bytes(key, b"triggers") {
-        return Some(Key::Triggers);
-    }
-    if same_bytes(key, b"chans") {
-        return Some(Key::Chans);
-    }
-    part_key(key)
-}
-
-// The same of the keys behind the counts.
-fn part_key(key: &[u8]) -> Option<Key>
-    ensures { result ≡ named_among part_keys key.now }
-{
-    if same_bytes(key, b"var") {
-        return Some(Key::Var);
-    }
-    if same_bytes(key, b"task") {
-        return Some(Key::Task);
-    }
-    if same_bytes(key, b"set") {
-        return Some(Key::Set);
-    }
-    if same_bytes(key, b"loc") {
-        return Some(Key::Loc);
-    }
-    if same_bytes(key, b"inv") {
-        return Some(Key::Inv);
-    }
-    if same_bytes(key, b"edge") {
-        return Some(Key::Edge);
-    }
-    if same_bytes(key, b"clk") {
-        return Some(Key::Clk);
-    }
-    if same_bytes(key, b"dif") {
-        return Some(Key::Dif);
-    }
-    if same_bytes(key, b"val") {
-        return Some(Key::Val);
-    }
-    if same_bytes(key, b"zero") {
-        return Some(Key::Zero);
-    }
-    if same_bytes(key, b"edges") {
-        return Some(Key::Edges);
-    }
-    None
 }

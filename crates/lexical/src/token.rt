@@ -2,8 +2,6 @@
 ghost use Rattle.std.specs.Prelude.{◌≡◌};
 ghost use Rattle.lexical.specs.Tokens.{IsToken, token_bytes, token_column};
 
-use crate::bytes::same_bytes;
-
 #[derive(Clone, Copy)]
 pub enum Token<'a> {
     // what stands before the first `=`
@@ -20,7 +18,7 @@ pub enum Token<'a> {
 pub fn token_of<'a>(field: &'a [u8], column: usize) -> Token<'a>
     ensures { IsToken field.now column result }
 {
-    if same_bytes(field, b"-") {
+    if field == b"-".as_slice() {
         return Token::Dash(column);
     }
     match field {

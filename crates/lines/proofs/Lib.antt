@@ -1,3 +1,5 @@
+pub mod Shapes
 pub mod Rows
 pub mod FirstLine
 pub mod Named
+pub mod CountLine

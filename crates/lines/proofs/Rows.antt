@@ -6,7 +6,7 @@ use Rattle.lexical.specs.declared.fault.SequenceFault.{SequenceFault}
 use Rattle.lexical.specs.declared.token.Token.{Token}
 use Rattle.lexical.specs.Bytes.{pieces, comma}
 use Rattle.lexical.specs.Fields.{on, behind, Codec, one, two, three, four}
-use Rattle.fields.specs.Splits.{OneField, TwoFields, ThreeFields, FourFields}
+use Rattle.lines.proofs.Shapes.{OneField, TwoFields, ThreeFields, FourFields}
 
 -- what a `?` returns
 pub gone : {X E : Type 0} {e : E} (r s : Result X E) → IsErrAnd r (λ y. y ≡ e) → Err e ≡ s → r ≡ s

@@ -13,12 +13,12 @@ use Rattle.lines.specs.declared.present.Present.{Present}
 -- what a line may refer to
 abbrev pub there_of : Present → There
 there_of p = record {
-  automata = p.automata;
-  clocks = p.clocks;
-  triggers = p.triggers;
-  channels = p.channels;
-  variables = p.variables;
-  tasks = p.tasks;
+  automata = p.scope.counts.automata;
+  clocks = p.scope.counts.clocks;
+  triggers = p.scope.counts.triggers;
+  channels = p.scope.counts.channels;
+  variables = p.scope.variables;
+  tasks = p.scope.tasks;
   locations = p.locations;
 }
 

@@ -1,52 +1,52 @@
 // The conditions of a guard.
-ghost use Rattle.std.specs.Prelude.{◌≡◌, ◌+◌, ◌^◌, ◌<◌, length};
+ghost use Rattle.std.specs.Prelude.{◌≡◌};
 ghost use Rattle.lexical.specs.declared.key.Key.TheVariants.{Clk as clock_key, Dif as difference_key, Val as value_key};
 ghost use Rattle.grammar.specs.Reading.{clock_condition, difference_condition, variable_condition};
 ghost use Rattle.lines.specs.Values.{part_of, there_of};
 
 use crate::present::Present;
-use fields::field::{four_fields, three_fields};
+use fields::text::FieldText;
 use fields::value::{integer, natural, reference, relation, short_integer};
-use lexical::fault::{Place, SequenceFault};
+use lexical::fault::SequenceFault;
+use lexical::token::Token;
 use parts::part::Condition;
 
 // A clock against a constant.
-pub fn clock_line(value: &[u8], at: Place, present: Present) -> Result<Condition, SequenceFault>
-    requires { at.column + length value.now < 2 ^ 64 }
-    ensures { result ≡ part_of (there_of present) clock_key clock_condition at value.now }
+pub fn clock_line(value: FieldText, present: Present) -> Result<Condition, SequenceFault>
+    ensures { result ≡ part_of (there_of present) clock_key clock_condition value.entry.at value.entry.bytes.now }
 {
-    let (x, y, z) = three_fields(value, at)?;
-    let clock = reference(x, at.line, present.clocks as usize)?;
-    let relation = relation(y, at.line)?;
-    let constant = natural(z, at.line, 0, 1000000000)?;
+    let mut tokens = [Token::Dash(0); 3];
+    value.split_into(&mut tokens)?;
+    let [x, y, z] = tokens;
+    let clock = reference(x, value.at.line, present.scope.counts.clocks as usize)?;
+    let relation = relation(y, value.at.line)?;
+    let constant = natural(z, value.at.line, 0, 1000000000)?;
     Ok(Condition::Clock(clock, relation, constant))
 }
 
 // The difference of two clocks against a constant.
-pub fn difference_line(
-    value: &[u8],
-    at: Place,
-    present: Present,
-) -> Result<Condition, SequenceFault>
-    requires { at.column + length value.now < 2 ^ 64 }
-    ensures { result ≡ part_of (there_of present) difference_key difference_condition at value.now }
+pub fn difference_line(value: FieldText, present: Present) -> Result<Condition, SequenceFault>
+    ensures { result ≡ part_of (there_of present) difference_key difference_condition value.entry.at value.entry.bytes.now }
 {
-    let (x, y, z, w) = four_fields(value, at)?;
-    let first = reference(x, at.line, present.clocks as usize)?;
-    let second = reference(y, at.line, present.clocks as usize)?;
-    let relation = relation(z, at.line)?;
-    let constant = integer(w, at.line, -1000000000, 1000000000)?;
+    let mut tokens = [Token::Dash(0); 4];
+    value.split_into(&mut tokens)?;
+    let [x, y, z, w] = tokens;
+    let first = reference(x, value.at.line, present.scope.counts.clocks as usize)?;
+    let second = reference(y, value.at.line, present.scope.counts.clocks as usize)?;
+    let relation = relation(z, value.at.line)?;
+    let constant = integer(w, value.at.line, -1000000000, 1000000000)?;
     Ok(Condition::Difference(first, second, relation, constant))
 }
 
 // A variable against a constant.
-pub fn value_line(value: &[u8], at: Place, present: Present) -> Result<Condition, SequenceFault>
-    requires { at.column + length value.now < 2 ^ 64 }
-    ensures { result ≡ part_of (there_of present) value_key variable_condition at value.now }
+pub fn value_line(value: FieldText, present: Present) -> Result<Condition, SequenceFault>
+    ensures { result ≡ part_of (there_of present) value_key variable_condition value.entry.at value.entry.bytes.now }
 {
-    let (x, y, z) = three_fields(value, at)?;
-    let variable = reference(x, at.line, present.variables)?;
-    let relation = relation(y, at.line)?;
-    let constant = short_integer(z, at.line, -32768, 32767)?;
+    let mut tokens = [Token::Dash(0); 3];
+    value.split_into(&mut tokens)?;
+    let [x, y, z] = tokens;
+    let variable = reference(x, value.at.line, present.scope.variables)?;
+    let relation = relation(y, value.at.line)?;
+    let constant = short_integer(z, value.at.line, -32768, 32767)?;
     Ok(Condition::Variable(variable, relation, constant))
 }

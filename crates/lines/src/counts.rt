@@ -1,12 +1,11 @@
 // The key and the value of a line, and the five lines of counts.
 ghost use Rattle.std.specs.Prelude.{◌≡◌, ◌≤◌, length, IfOk, Ok, Err, MatchResult};
-ghost use Rattle.lexical.specs.Bytes.{pieces, newline, same};
+ghost use Rattle.lexical.specs.Bytes.{pieces, newline};
 ghost use Rattle.lexical.specs.Fields.{on};
-ghost use Rattle.lexical.specs.Keys.{key_bytes};
 ghost use Rattle.lexical.specs.Tokens.{KeyAt, token_bytes};
 ghost use Rattle.grammar.specs.Reading.{key_and_value, value_place, counted as CountedOf, count_line, read_counts};
 
-use fields::field::one_field;
+use fields::text::FieldText;
 use fields::value::natural;
 use lexical::bytes::cut_at;
 use lexical::fault::{LineFault, Place, SequenceFault};
@@ -18,45 +17,25 @@ use parts::part::Counts;
 pub fn key_and_value<'a>(
     line: &'a [u8],
     number: usize,
-) -> Result<(Token<'a>, &'a [u8]), SequenceFault>
-    ensures parted { MatchResult result (λ p. key_and_value number line.now ≡ Ok (token_bytes p.0, p.1.now)) (λ e. key_and_value number line.now ≡ Err e) }
+) -> Result<(Token<'a>, FieldText<'a>), SequenceFault>
+    ensures parted { MatchResult result (λ p. key_and_value number line.now ≡ Ok (token_bytes p.0, p.1.bytes.now)) (λ e. key_and_value number line.now ≡ Err e) }
+    ensures placed { IfOk result (λ p. p.1.at ≡ value_place number (token_bytes p.0)) }
     ensures keyed { IfOk result (λ p. KeyAt 1 p.0) }
     ensures short { IfOk result (λ p. length (token_bytes p.0) ≤ 8) }
 {
-    let Some((key, value)) = cut_at(line, b'=') else {
-        return Err(SequenceFault::Line(LineFault::Malformed(Place {
-            line: number,
-            column: 1,
-        })));
-    };
-    if key.len() < 1 || key.len() > 8 {
-        return Err(SequenceFault::Line(LineFault::Malformed(Place {
-            line: number,
-            column: 1,
-        })));
-    }
-    Ok((Token::Key(key, 1), value))
-}
-
-// Where the value behind a key stands, in a line with this number.
-pub fn value_place(key: Token, number: usize) -> Place
-    requires key_at { KeyAt 1 key }
-    requires key_len_bound { length (token_bytes key) ≤ 40960 }
-    ensures { result ≡ value_place number (token_bytes key.entry) }
-{
-    Place {
+    let start = Place {
         line: number,
-        column: key.column() + key.bytes().len() + 1,
-    }
-}
-
-// Whether bytes name this key.
-fn is_named(name: &[u8], key: Key) -> bool
-    ensures { result ≡ same name.now (key_bytes key) }
-{
-    match key_named(name) {
-        Some(found) => found == key,
-        None => false,
+        column: 1,
+    };
+    match cut_at(line, b'=') {
+        Some((key, bytes)) if 1 <= key.len() && key.len() <= 8 => {
+            let at = Place {
+                line: number,
+                column: start.column + key.len() + 1,
+            };
+            Ok((Token::Key(key, start.column), FieldText { bytes, at }))
+        }
+        _ => Err(SequenceFault::Line(LineFault::Malformed(start))),
     }
 }
 
@@ -66,15 +45,16 @@ fn counted(key: Key, low: u32, high: u32, number: usize, line: &[u8]) -> Result<
     ensures within { IfOk result (λ n. n ≤ high) }
 {
     let (name, value) = key_and_value(line, number)?;
-    if !is_named(name.bytes(), key) {
+    if key_named(name.bytes()) != Some(key) {
         return Err(SequenceFault::Line(LineFault::KeyNotAllowed(Place {
             line: number,
             column: 1,
         })));
     }
-    let x = one_field(value, value_place(name, number))?;
-    let count = natural(x, number, low, high)?;
-    Ok(count)
+    let mut tokens = [Token::Dash(0); 1];
+    value.split_into(&mut tokens)?;
+    let [x] = tokens;
+    Ok(natural(x, number, low, high)?)
 }
 
 // The number on the first line, which has to have this key, and the text behind that line.
@@ -94,8 +74,7 @@ pub fn count_line<'a>(
             column: 1,
         })));
     };
-    let count = counted(key, low, high, number, line)?;
-    Ok((count, rest))
+    Ok((counted(key, low, high, number, line)?, rest))
 }
 
 // The counts on the first five lines, and the text behind them.

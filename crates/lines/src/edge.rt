@@ -1,25 +1,32 @@
 // Edges, the clocks that they zero, and how many edges there are.
-ghost use Rattle.std.specs.Prelude.{◌≡◌, ◌+◌, ◌^◌, ◌<◌, length};
+ghost use Rattle.std.specs.Prelude.{◌≡◌};
 ghost use Rattle.lexical.specs.declared.key.Key.TheVariants.{Edge as edge_key, Zero as zero_key, Edges as edges_key};
 ghost use Rattle.grammar.specs.Lines.{nothing_there};
 ghost use Rattle.grammar.specs.Reading.{edge_of};
 ghost use Rattle.lines.specs.Values.{part_of, there_of, reset_of, edge_count_of};
 
 use crate::present::Present;
-use fields::field::{one_field, three_fields};
+use fields::text::FieldText;
 use fields::value::{label, natural, reference};
-use lexical::fault::{Place, SequenceFault};
+use lexical::fault::SequenceFault;
+use lexical::token::Token;
 use parts::part::{Edge, Reset};
 
 // From, to and label of an edge, which has no guard, zeroes no clock and assigns nothing yet.
-pub fn edge_line(value: &[u8], at: Place, present: Present) -> Result<Edge, SequenceFault>
-    requires { at.column + length value.now < 2 ^ 64 }
-    ensures { result ≡ part_of (there_of present) edge_key edge_of at value.now }
+pub fn edge_line(value: FieldText, present: Present) -> Result<Edge, SequenceFault>
+    ensures { result ≡ part_of (there_of present) edge_key edge_of value.entry.at value.entry.bytes.now }
 {
-    let (x, y, z) = three_fields(value, at)?;
-    let from = reference(x, at.line, present.locations)?;
-    let to = reference(y, at.line, present.locations)?;
-    let label = label(z, at.line, present.triggers, present.channels)?;
+    let mut tokens = [Token::Dash(0); 3];
+    value.split_into(&mut tokens)?;
+    let [x, y, z] = tokens;
+    let from = reference(x, value.at.line, present.locations)?;
+    let to = reference(y, value.at.line, present.locations)?;
+    let label = label(
+        z,
+        value.at.line,
+        present.scope.counts.triggers,
+        present.scope.counts.channels,
+    )?;
     Ok(Edge {
         from,
         to,
@@ -31,19 +38,22 @@ pub fn edge_line(value: &[u8], at: Place, present: Present) -> Result<Edge, Sequ
 }
 
 // A clock that is zeroed.
-pub fn reset_line(value: &[u8], at: Place, present: Present) -> Result<Reset, SequenceFault>
-    ensures { result ≡ part_of (there_of present) zero_key reset_of at value.now }
+pub fn reset_line(value: FieldText, present: Present) -> Result<Reset, SequenceFault>
+    ensures { result ≡ part_of (there_of present) zero_key reset_of value.entry.at value.entry.bytes.now }
 {
-    let x = one_field(value, at)?;
-    let clock = reference(x, at.line, present.clocks as usize)?;
+    let mut tokens = [Token::Dash(0); 1];
+    value.split_into(&mut tokens)?;
+    let [x] = tokens;
+    let clock = reference(x, value.at.line, present.scope.counts.clocks as usize)?;
     Ok(Reset { clock })
 }
 
 // How many edges there are.
-pub fn edge_count_line(value: &[u8], at: Place) -> Result<u32, SequenceFault>
-    ensures { result ≡ part_of nothing_there edges_key edge_count_of at value.now }
+pub fn edge_count_line(value: FieldText) -> Result<u32, SequenceFault>
+    ensures { result ≡ part_of nothing_there edges_key edge_count_of value.entry.at value.entry.bytes.now }
 {
-    let x = one_field(value, at)?;
-    let count = natural(x, at.line, 0, 128)?;
-    Ok(count)
+    let mut tokens = [Token::Dash(0); 1];
+    value.split_into(&mut tokens)?;
+    let [x] = tokens;
+    Ok(natural(x, value.at.line, 0, 128)?)
 }

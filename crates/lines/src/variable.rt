@@ -1,41 +1,40 @@
 // Variables and assignments.
-ghost use Rattle.std.specs.Prelude.{◌≡◌, ◌+◌, ◌^◌, ◌<◌, length};
+ghost use Rattle.std.specs.Prelude.{◌≡◌};
 ghost use Rattle.lexical.specs.declared.key.Key.TheVariants.{Var as var_key, Set as set_key};
 ghost use Rattle.grammar.specs.Lines.{nothing_there};
 ghost use Rattle.grammar.specs.Reading.{variable_of, assignment_of};
 ghost use Rattle.lines.specs.Values.{part_of, there_of};
 
 use crate::present::Present;
-use fields::field::three_fields;
+use fields::text::FieldText;
 use fields::value::{optional_reference, reference, short_integer};
-use lexical::fault::{Place, SequenceFault};
+use lexical::fault::SequenceFault;
+use lexical::token::Token;
 use parts::part::{Assignment, Variable};
 
 // Low, high and start of a variable.
-pub fn variable_line(value: &[u8], at: Place) -> Result<Variable, SequenceFault>
-    requires { at.column + length value.now < 2 ^ 64 }
-    ensures { result ≡ part_of nothing_there var_key variable_of at value.now }
+pub fn variable_line(value: FieldText) -> Result<Variable, SequenceFault>
+    ensures { result ≡ part_of nothing_there var_key variable_of value.entry.at value.entry.bytes.now }
 {
-    let (x, y, z) = three_fields(value, at)?;
-    let low = short_integer(x, at.line, -32768, 32767)?;
-    let high = short_integer(y, at.line, low, 32767)?;
-    let start = short_integer(z, at.line, low, high)?;
+    let mut tokens = [Token::Dash(0); 3];
+    value.split_into(&mut tokens)?;
+    let [x, y, z] = tokens;
+    let low = short_integer(x, value.at.line, -32768, 32767)?;
+    let high = short_integer(y, value.at.line, low, 32767)?;
+    let start = short_integer(z, value.at.line, low, high)?;
     Ok(Variable { low, high, start })
 }
 
 // The variable that is set, the one that it takes or none, and the constant.
-pub fn assignment_line(
-    value: &[u8],
-    at: Place,
-    present: Present,
-) -> Result<Assignment, SequenceFault>
-    requires { at.column + length value.now < 2 ^ 64 }
-    ensures { result ≡ part_of (there_of present) set_key assignment_of at value.now }
+pub fn assignment_line(value: FieldText, present: Present) -> Result<Assignment, SequenceFault>
+    ensures { result ≡ part_of (there_of present) set_key assignment_of value.entry.at value.entry.bytes.now }
 {
-    let (x, y, z) = three_fields(value, at)?;
-    let target = reference(x, at.line, present.variables)?;
-    let source = optional_reference(y, at.line, present.variables)?;
-    let constant = short_integer(z, at.line, -32768, 32767)?;
+    let mut tokens = [Token::Dash(0); 3];
+    value.split_into(&mut tokens)?;
+    let [x, y, z] = tokens;
+    let target = reference(x, value.at.line, present.scope.variables)?;
+    let source = optional_reference(y, value.at.line, present.scope.variables)?;
+    let constant = short_integer(z, value.at.line, -32768, 32767)?;
     Ok(Assignment {
         target,
         source,

@@ -37,7 +37,7 @@ pub fn read_sequence<'a>(memory: Memory, text: &'a [u8]) -> Result<(Sequence, &'
             memory,
         });
     }
-    // matches, since a refusal takes the memory and what was read needs it too
+    // not by map_err, here and below: its closure would take the memory, which is needed further on
     let (counts, lines) = match read_counts(text) {
         Ok(read) => read,
         Err(fault) => return Err(Refusal { fault, memory }),

@@ -1,11 +1,12 @@
 // What the value of a line does to a draft, by the kind of the line.
-ghost use Rattle.std.specs.Prelude.{◌≡◌, ◌+◌, ◌^◌, ◌<◌, length};
+ghost use Rattle.std.specs.Prelude.{◌≡◌};
 ghost use Rattle.lexical.specs.declared.key.Key.TheVariants as kind;
 ghost use Rattle.sequence.specs.Model.{plan_of, Adds};
 ghost use Rattle.grammar.specs.Lines.{there};
 ghost use Rattle.lines.specs.Values.{there_of};
 ghost use Rattle.reader.specs.Taking.{TakesValue, add_assignment, placed};
 
+use fields::text::FieldText;
 use lexical::fault::{LineFault, Place, SequenceFault};
 use lexical::key::Key;
 use lines::condition::{clock_line, difference_line, value_line};
@@ -28,14 +29,8 @@ pub(crate) enum Taken {
 fn present(draft: &Draft) -> Present
     ensures { there_of result ≡ there (plan_of draft.now) }
 {
-    let counts = draft.scope().counts;
     Present {
-        automata: counts.automata,
-        clocks: counts.clocks,
-        triggers: counts.triggers,
-        channels: counts.channels,
-        variables: draft.variables().len(),
-        tasks: draft.tasks().len(),
+        scope: draft.scope(),
         locations: draft.locations().len(),
     }
 }
@@ -61,12 +56,12 @@ fn add_assignment(draft: &mut Draft, assignment: Assignment) -> Result<(), Rule>
 }
 
 // The last line says how many edges there are.
-fn take_edge_count(draft: &Draft, at: Place, value: &[u8]) -> Result<Taken, SequenceFault>
-    ensures { TakesValue kind.Edges (plan_of draft.now) at value.now (plan_of draft.now) result }
+fn take_edge_count(draft: &Draft, value: FieldText) -> Result<Taken, SequenceFault>
+    ensures { TakesValue kind.Edges (plan_of draft.now) value.entry.at value.entry.bytes.now (plan_of draft.now) result }
 {
-    let count = edge_count_line(value, at)?;
+    let count = edge_count_line(value)?;
     if count as usize != draft.edges().len() {
-        return Err(SequenceFault::WrongEdgeCount(at));
+        return Err(SequenceFault::WrongEdgeCount(value.at));
     }
     Ok(Taken::Last)
 }
@@ -75,29 +70,27 @@ fn take_edge_count(draft: &Draft, at: Place, value: &[u8]) -> Result<Taken, Sequ
 pub(crate) fn take_value(
     draft: &mut Draft,
     key: Key,
-    at: Place,
-    value: &[u8],
+    value: FieldText,
 ) -> Result<Taken, SequenceFault>
-    requires { at.column + length value.now < 2 ^ 64 }
-    ensures { TakesValue key (plan_of draft.old) at value.now (plan_of draft.new) result }
+    ensures { TakesValue key (plan_of draft.old) value.entry.at value.entry.bytes.now (plan_of draft.new) result }
 {
     let present = present(draft);
     let added = match key {
         // never allowed behind the counts
         Key::Form | Key::Autos | Key::Clocks | Key::Triggers | Key::Chans => {
-            return Err(LineFault::KeyNotAllowed(at).into());
+            return Err(LineFault::KeyNotAllowed(value.at).into());
         }
-        Key::Var => draft.add_variable(variable_line(value, at)?),
-        Key::Task => draft.add_task(task_line(value, at)?),
-        Key::Set => add_assignment(draft, assignment_line(value, at, present)?),
-        Key::Loc => draft.add_location(location_line(value, at, present)?),
-        Key::Inv => draft.add_invariant(invariant_line(value, at, present)?),
-        Key::Edge => draft.add_edge(edge_line(value, at, present)?),
-        Key::Clk => draft.add_condition(clock_line(value, at, present)?),
-        Key::Dif => draft.add_condition(difference_line(value, at, present)?),
-        Key::Val => draft.add_condition(value_line(value, at, present)?),
-        Key::Zero => draft.add_reset(reset_line(value, at, present)?),
-        Key::Edges => return take_edge_count(draft, at, value),
+        Key::Var => draft.add_variable(variable_line(value)?),
+        Key::Task => draft.add_task(task_line(value)?),
+        Key::Set => add_assignment(draft, assignment_line(value, present)?),
+        Key::Loc => draft.add_location(location_line(value, present)?),
+        Key::Inv => draft.add_invariant(invariant_line(value, present)?),
+        Key::Edge => draft.add_edge(edge_line(value, present)?),
+        Key::Clk => draft.add_condition(clock_line(value, present)?),
+        Key::Dif => draft.add_condition(difference_line(value, present)?),
+        Key::Val => draft.add_condition(value_line(value, present)?),
+        Key::Zero => draft.add_reset(reset_line(value, present)?),
+        Key::Edges => return take_edge_count(draft, value),
     };
-    placed(added, at)
+    placed(added, value.at)
 }

@@ -19,7 +19,7 @@ use Rattle.parts.specs.Limits.{assignment_fits, reset_fits, invariant_fits, cond
 use Rattle.sequence.specs.Plan.{Plan, scope, reached, sound}
 use Rattle.sequence.specs.Building.{none}
 use Rattle.sequence.specs.Model.{Adds}
-use Rattle.sequence.specs.Growing.{used, fill, last_of, change_last, has_room, assigning_task, limited, guarded, resetting, assigning_edge, with_last_task, with_last_location, with_last_edge, grown, last_grown, Grows, add_task_assignment, add_invariant, add_condition, add_reset, add_edge_assignment}
+use Rattle.sequence.specs.Growing.{used, fill, last_of, change_last, has_room, assigning_task, limited, guarded, resetting, assigning_edge, with_last_task, with_last_location, with_last_edge, grown, last_grown, Becomes, add_task_assignment, add_invariant, add_condition, add_reset, add_edge_assignment}
 use Rattle.sequence.proofs.Sound.{reached_push}
 use Rattle.sequence.proofs.Growing.{ends_in}
 
@@ -167,7 +167,7 @@ at_edges p xs = record { counts = p.counts; variables = p.variables; tasks = p.t
 
 -- the last of a list in a plan grew
 module _ {X : Type 0} (put : List X → Plan) (xs zs : List X) (room : X → Bool) (more : X → X) (rule : Rule) (fits fits' : Bool) (same : fits ≡ fits') where
-  pub plan_grows : (r : Result Unit Rule) → Grows (last_grown room fits more rule xs) xs zs r → Adds (grown (last_of xs) room fits' (put (change_last more xs)) rule) (put xs) (put zs) r
+  pub plan_grows : (r : Result Unit Rule) → Becomes (last_grown room fits more rule xs) xs zs r → Adds (grown (last_of xs) room fits' (put (change_last more xs)) rule) (put xs) (put zs) r
   plan_grows (Ok u) g =
       ap (λ b. grown (last_of xs) room b (put (change_last more xs)) rule) (sym same)
       ∙ (grown_placed put (last_of xs) room fits (change_last more xs) rule ∙ ap (placed put) g)
@@ -177,7 +177,7 @@ module _ {X : Type 0} (put : List X → Plan) (xs zs : List X) (room : X → Boo
     ap put g.1,
   )
 
-  pub grows_sound : (r : Result Unit Rule) → Grows (last_grown room fits more rule xs) xs zs r → sound (put xs) ≡ true → (fits' ≡ true → sound (put (change_last more xs)) ≡ true) → sound (put zs) ≡ true
+  pub grows_sound : (r : Result Unit Rule) → Becomes (last_grown room fits more rule xs) xs zs r → sound (put xs) ≡ true → (fits' ≡ true → sound (put (change_last more xs)) ≡ true) → sound (put zs) ≡ true
   grows_sound (Ok u) g s keeps =
       let m = grown_fits rule (change_last more xs) zs (last_of xs) room fits g in
       subst (λ (l : List X). sound (put l) ≡ true) m.1 (keeps (sym same ∙ m.0))

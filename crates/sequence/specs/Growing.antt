@@ -79,9 +79,9 @@ abbrev pub last_grown : {X : Type 0} → (room : X → Bool) → (fits : Bool) �
 last_grown room fits more rule xs = grown (last_of xs) room fits (change_last more xs) rule
 
 -- a list became what the outcome says, or its rule is named and nothing changed
-abbrev pub Grows : {Y : Type 0} → (outcome : Result Y Rule) → (before after : Y) → Result Unit Rule → Type 0
-Grows outcome before after (Ok _) = outcome ≡ Ok after
-Grows outcome before after (Err rule) = (outcome ≡ Err rule) × (after ≡ before)
+abbrev pub Becomes : {Y : Type 0} → (outcome : Result Y Rule) → (before after : Y) → Result Unit Rule → Type 0
+Becomes outcome before after (Ok _) = outcome ≡ Ok after
+Becomes outcome before after (Err rule) = (outcome ≡ Err rule) × (after ≡ before)
 
 abbrev pub add_task_assignment : Plan → Assignment → Result Plan Rule
 add_task_assignment p a =

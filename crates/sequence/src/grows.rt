@@ -1,6 +1,6 @@
 // Parts that have groups of parts, and the last of a list grown by a part of such a group.
 ghost use Rattle.std.specs.Prelude.{◌≡◌, Bool, vec_capacity};
-ghost use Rattle.sequence.specs.Growing.{assigning_task, limited, has_room, last_grown, Grows};
+ghost use Rattle.sequence.specs.Growing.{assigning_task, limited, has_room, last_grown, Becomes};
 
 mod edges;
 
@@ -58,7 +58,7 @@ pub(crate) fn grow_last<P: Grows<T>, T: Refers + Copy>(
     scope: &Scope,
     rule: Rule,
 ) -> Result<(), Rule>
-    ensures grows { Grows (last_grown P.roomy (T.fits scope.now part) (P.one_more part) rule list.old.items) list.old.items list.new.items result }
+    ensures grows { Becomes (last_grown P.roomy (T.fits scope.now part) (P.one_more part) rule list.old.items) list.old.items list.new.items result }
     ensures capacity { vec_capacity list.new ≡ vec_capacity list.old }
 {
     let Some(last) = list.last_mut() else {

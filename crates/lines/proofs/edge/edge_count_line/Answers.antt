@@ -1,20 +1,21 @@
-use Rattle.std.proofs.Common.{Ok, Err, ap}
+use Rattle.std.proofs.Common.{Ok, Err, ap, rules}
 use Rattle.lexical.specs.declared.fault.LineFault.TheVariants.{Number}
 use Rattle.lexical.specs.declared.fault.SequenceFault.TheVariants.{Line}
 use Rattle.lexical.specs.Fields.{count, numeral}
 use Rattle.lines.specs.Values.{edge_count_of}
+use Rattle.lines.proofs.Shapes.{one_of}
 use Rattle.lines.proofs.Rows.{gone, one_only}
 use Rattle.lines.proofs.edge.edge_count_line.Goals as goal
 
-pub returns-in_err-count : goal.returns-in_err-count
-returns-in_err-count c =
-    let f = c.in_ok-x.ensures in
-    gone c.from_residual-in_err-count.result _ c.from_residual-in_err-count.ensures.1
-    (one_only (count 0 128) edge_count_of c.args.at f (Err (Line (Number c.in_err-count.field-0.0)))
-    (ap numeral (c.in_err-count.ensures.read f.x c.args.at.column f.first)))
+pub returns-in_err-natural : goal.returns-in_err-natural
+returns-in_err-natural c =
+    let f = one_of c.args.value.bytes.now c.args.value.at c.split_into.new.tokens _ (search rules) c.in_ok-split_into.ensures in
+    gone c.from_residual-in_err-natural.result _ c.from_residual-in_err-natural.ensures.1
+    (one_only (count 0 128) edge_count_of c.args.value.at f (Err (Line (Number c.in_err-natural.field-0.0)))
+    (ap numeral (c.in_err-natural.ensures.read f.x c.args.value.at.column f.first)))
 
 pub returns : goal.returns
 returns c =
-    let f = c.in_ok-x.ensures in
-    one_only (count 0 128) edge_count_of c.args.at f (Ok c.in_ok-count.count)
-    (ap numeral (c.in_ok-count.ensures.read f.x c.args.at.column f.first))
+    let f = one_of c.args.value.bytes.now c.args.value.at c.split_into.new.tokens _ (search rules) c.in_ok-split_into.ensures in
+    one_only (count 0 128) edge_count_of c.args.value.at f (Ok c.in_ok-natural.field-0)
+    (ap numeral (c.in_ok-natural.ensures.read f.x c.args.value.at.column f.first))

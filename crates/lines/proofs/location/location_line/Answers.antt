@@ -1,25 +1,26 @@
-use Rattle.std.proofs.Common.{Ok, Err}
+use Rattle.std.proofs.Common.{Ok, Err, rules}
 use Rattle.lexical.specs.Fields.{reference, optional, behind}
 use Rattle.grammar.specs.Reading.{location_of}
+use Rattle.lines.proofs.Shapes.{two_of}
 use Rattle.lines.proofs.Rows.{gone, two_first, two_second}
 use Rattle.lines.proofs.location.location_line.Goals as goal
 
 pub returns-in_err-automaton : goal.returns-in_err-automaton
 returns-in_err-automaton c =
-    let f = c.in_ok-x.ensures in
+    let f = two_of c.args.value.bytes.now c.args.value.at c.split_into.new.tokens _ (search rules) c.in_ok-split_into.ensures in
     gone c.from_residual-in_err-automaton.result _ c.from_residual-in_err-automaton.ensures.1
-    (two_first (reference c.args.present.automata) (optional (reference c.args.present.tasks)) location_of c.args.at f (Err c.in_err-automaton.field-0.0)
-    (c.in_err-automaton.ensures f.x c.args.at.column f.first))
+    (two_first (reference c.args.present.scope.counts.automata) (optional (reference c.args.present.scope.tasks)) location_of c.args.value.at f (Err c.in_err-automaton.field-0.0)
+    (c.in_err-automaton.ensures f.x c.args.value.at.column f.first))
 
 pub returns-in_err-task : goal.returns-in_err-task
 returns-in_err-task c =
-    let f = c.in_ok-x.ensures in
+    let f = two_of c.args.value.bytes.now c.args.value.at c.split_into.new.tokens _ (search rules) c.in_ok-split_into.ensures in
     gone c.from_residual-in_err-task.result _ c.from_residual-in_err-task.ensures.1
-    (two_second (reference c.args.present.automata) (optional (reference c.args.present.tasks)) location_of c.args.at f c.in_ok-automaton.automaton (Err c.in_err-task.field-0.0)
-    (c.in_ok-automaton.ensures f.x c.args.at.column f.first) (c.in_err-task.ensures f.y (behind c.args.at f.x).column f.second))
+    (two_second (reference c.args.present.scope.counts.automata) (optional (reference c.args.present.scope.tasks)) location_of c.args.value.at f c.in_ok-automaton.automaton (Err c.in_err-task.field-0.0)
+    (c.in_ok-automaton.ensures f.x c.args.value.at.column f.first) (c.in_err-task.ensures f.y (behind c.args.value.at f.x).column f.second))
 
 pub returns : goal.returns
 returns c =
-    let f = c.in_ok-x.ensures in
-    two_second (reference c.args.present.automata) (optional (reference c.args.present.tasks)) location_of c.args.at f c.in_ok-automaton.automaton (Ok c.in_ok-task.task)
-    (c.in_ok-automaton.ensures f.x c.args.at.column f.first) (c.in_ok-task.ensures f.y (behind c.args.at f.x).column f.second)
+    let f = two_of c.args.value.bytes.now c.args.value.at c.split_into.new.tokens _ (search rules) c.in_ok-split_into.ensures in
+    two_second (reference c.args.present.scope.counts.automata) (optional (reference c.args.present.scope.tasks)) location_of c.args.value.at f c.in_ok-automaton.automaton (Ok c.in_ok-task.task)
+    (c.in_ok-automaton.ensures f.x c.args.value.at.column f.first) (c.in_ok-task.ensures f.y (behind c.args.value.at f.x).column f.second)

@@ -1,4 +1,4 @@
-use Rattle.std.proofs.Common.{◌≡◌, ℕ, List, ℤ, Ok, Err, Result, ap, ◌∙◌, w16, SFits, to_z, of_z, rules}
+use Rattle.std.proofs.Common.{◌≡◌, ℕ, List, ℤ, Ok, Err, Result, ap, ◌∙◌, w16, SFits, to_z, of_z, rules, rules}
 use Rattle.std.proofs.lemmas.Int.{to_z-of_z}
 use Rattle.parts.specs.declared.part.Variable.{Variable}
 use Rattle.lexical.specs.declared.fault.Place.{Place}
@@ -9,6 +9,7 @@ use Rattle.lexical.specs.Fields.{integer, numeral, behind}
 use Rattle.lexical.specs.Numbers.{integer_of}
 use Rattle.grammar.specs.Lines.{lowest, highest}
 use Rattle.grammar.specs.Reading.{variable_of}
+use Rattle.lines.proofs.Shapes.{three_of}
 use Rattle.lines.proofs.Rows.{gone, three_first, three_second, three_third}
 use Rattle.lines.proofs.variable.variable_line.Goals as goal
 
@@ -28,36 +29,36 @@ all_three low high start f g h = rw (to_z-of_z w16 low f, to_z-of_z w16 high g, 
 
 pub returns-in_err-low : goal.returns-in_err-low
 returns-in_err-low c =
-    let f = c.in_ok-x.ensures in
+    let f = three_of c.args.value.bytes.now c.args.value.at c.split_into.new.tokens _ (search rules) c.in_ok-split_into.ensures in
     gone c.from_residual-in_err-low.result _ c.from_residual-in_err-low.ensures.1
-    (three_first (integer lowest highest) (λ low. integer low highest) (λ low high. integer low high) variable_of c.args.at f (Err (Line (Number c.in_err-low.field-0.0))) (ap numeral (c.in_err-low.ensures f.x c.args.at.column f.first)))
+    (three_first (integer lowest highest) (λ low. integer low highest) (λ low high. integer low high) variable_of c.args.value.at f (Err (Line (Number c.in_err-low.field-0.0))) (ap numeral (c.in_err-low.ensures f.x c.args.value.at.column f.first)))
 
 pub returns-in_err-high : goal.returns-in_err-high
 returns-in_err-high c =
-    let f = c.in_ok-x.ensures in
+    let f = three_of c.args.value.bytes.now c.args.value.at c.split_into.new.tokens _ (search rules) c.in_ok-split_into.ensures in
     let low = c.in_ok-low.low in
     let fl : SFits w16 low = search rules in
     gone c.from_residual-in_err-high.result _ c.from_residual-in_err-high.ensures.1
-    (three_second (integer lowest highest) (λ low. integer low highest) (λ low high. integer low high) variable_of c.args.at f low (Err (Line (Number c.in_err-high.field-0.0)))
-    (ap numeral (c.in_ok-low.ensures f.x c.args.at.column f.first))
-    (ap numeral (c.in_err-high.ensures f.y (behind c.args.at f.x).column f.second ∙ lower low fl (behind c.args.at f.x) f.y)))
+    (three_second (integer lowest highest) (λ low. integer low highest) (λ low high. integer low high) variable_of c.args.value.at f low (Err (Line (Number c.in_err-high.field-0.0)))
+    (ap numeral (c.in_ok-low.ensures f.x c.args.value.at.column f.first))
+    (ap numeral (c.in_err-high.ensures f.y (behind c.args.value.at f.x).column f.second ∙ lower low fl (behind c.args.value.at f.x) f.y)))
 
 pub returns-in_err-start : goal.returns-in_err-start
 returns-in_err-start c =
-    let f = c.in_ok-x.ensures in
+    let f = three_of c.args.value.bytes.now c.args.value.at c.split_into.new.tokens _ (search rules) c.in_ok-split_into.ensures in
     let low = c.in_ok-low.low in
     let high = c.in_ok-high.high in
     let fl : SFits w16 low = search rules in
     let fh : SFits w16 high = search rules in
     gone c.from_residual-in_err-start.result _ c.from_residual-in_err-start.ensures.1
-    (three_third (integer lowest highest) (λ low. integer low highest) (λ low high. integer low high) variable_of c.args.at f low high (Err (Line (Number c.in_err-start.field-0.0)))
-    (ap numeral (c.in_ok-low.ensures f.x c.args.at.column f.first))
-    (ap numeral (c.in_ok-high.ensures f.y (behind c.args.at f.x).column f.second ∙ lower low fl (behind c.args.at f.x) f.y))
-    (ap numeral (c.in_err-start.ensures f.z (behind (behind c.args.at f.x) f.y).column f.third ∙ both low high fl fh (behind (behind c.args.at f.x) f.y) f.z)))
+    (three_third (integer lowest highest) (λ low. integer low highest) (λ low high. integer low high) variable_of c.args.value.at f low high (Err (Line (Number c.in_err-start.field-0.0)))
+    (ap numeral (c.in_ok-low.ensures f.x c.args.value.at.column f.first))
+    (ap numeral (c.in_ok-high.ensures f.y (behind c.args.value.at f.x).column f.second ∙ lower low fl (behind c.args.value.at f.x) f.y))
+    (ap numeral (c.in_err-start.ensures f.z (behind (behind c.args.value.at f.x) f.y).column f.third ∙ both low high fl fh (behind (behind c.args.value.at f.x) f.y) f.z)))
 
 pub returns : goal.returns
 returns c =
-    let f = c.in_ok-x.ensures in
+    let f = three_of c.args.value.bytes.now c.args.value.at c.split_into.new.tokens _ (search rules) c.in_ok-split_into.ensures in
     let low = c.in_ok-low.low in
     let high = c.in_ok-high.high in
     let start = c.in_ok-start.start in
@@ -65,7 +66,7 @@ returns c =
     let fh : SFits w16 high = search rules in
     let fs : SFits w16 start = search rules in
     all_three low high start fl fh fs ∙
-    three_third (integer lowest highest) (λ low. integer low highest) (λ low high. integer low high) variable_of c.args.at f low high (Ok start)
-    (ap numeral (c.in_ok-low.ensures f.x c.args.at.column f.first))
-    (ap numeral (c.in_ok-high.ensures f.y (behind c.args.at f.x).column f.second ∙ lower low fl (behind c.args.at f.x) f.y))
-    (ap numeral (c.in_ok-start.ensures f.z (behind (behind c.args.at f.x) f.y).column f.third ∙ both low high fl fh (behind (behind c.args.at f.x) f.y) f.z))
+    three_third (integer lowest highest) (λ low. integer low highest) (λ low high. integer low high) variable_of c.args.value.at f low high (Ok start)
+    (ap numeral (c.in_ok-low.ensures f.x c.args.value.at.column f.first))
+    (ap numeral (c.in_ok-high.ensures f.y (behind c.args.value.at f.x).column f.second ∙ lower low fl (behind c.args.value.at f.x) f.y))
+    (ap numeral (c.in_ok-start.ensures f.z (behind (behind c.args.value.at f.x) f.y).column f.third ∙ both low high fl fh (behind (behind c.args.value.at f.x) f.y) f.z))

@@ -5,6 +5,7 @@ use Rattle.parts.specs.Limits.{task_fits}
 use Rattle.sequence.specs.Plan.{sound, scope}
 use Rattle.sequence.specs.Model.{plan_of}
 use Rattle.sequence.proofs.Sound.{sound_facts, task_added}
+use Rattle.sequence.proofs.Filling.{at_tasks}
 use Rattle.sequence.proofs.draft.Draft.add_task.Goals as goal
 
 pub invariant_of-self : goal.invariant_of-self
@@ -17,7 +18,7 @@ invariant_of-self c =
     let fits : task_fits (scope p) c.args.task ≡ true = sym (ap (λ s. task_fits s c.args.task) c.scope.ensures) ∙ sym c.if-not-fits.ensures in (
       ((d.lists.room.0, omega (arith, c.push_reserved.ensures.capacity, d.lists.room.1), d.lists.room.2, d.lists.room.3), tt),
       (
-        subst (λ (xs : List Task). sound (record { counts = p.counts; variables = p.variables; tasks = xs; locations = p.locations; edges = p.edges }) ≡ true)
+        subst (λ (xs : List Task). sound (at_tasks p xs) ≡ true)
             (sym c.push_reserved.ensures.items) (task_added p (sound_facts p d.valid) c.args.task l e few fits),
         tt,
       ),
