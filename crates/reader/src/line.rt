@@ -1,17 +1,14 @@
 // One line behind the counts: key, room, fields and what they do, in this order.
-ghost use Rattle.std.specs.Prelude.{◌≡◌, ◌+◌, ◌≤◌, length};
-ghost use Rattle.lexical.specs.Keys.{key_named};
-ghost use Rattle.lexical.specs.Tokens.{KeyAt, token_bytes};
+ghost use Rattle.std.specs.Prelude.{◌≡◌};
 ghost use Rattle.sequence.specs.Model.{plan_of};
-ghost use Rattle.grammar.specs.Reading.{take_key, take_line};
+ghost use Rattle.grammar.specs.Reading.{take_line};
 ghost use Rattle.reader.specs.Taking.{Takes, key_fault};
 
 use crate::stages::{has_room, is_allowed, stage};
 use crate::take::take_value;
 use lexical::fault::{LineFault, Place, SequenceFault};
 use lexical::key::key_named;
-use lexical::token::Token;
-use lines::counts::{key_and_value, value_place};
+use lines::counts::key_and_value;
 use sequence::draft::Draft;
 
 // The fault of a key that is not allowed in a line.
@@ -21,17 +18,15 @@ fn not_allowed(line: usize) -> SequenceFault
     SequenceFault::Line(LineFault::KeyNotAllowed(Place { line, column: 1 }))
 }
 
-// A line with its key and its value.
-fn take_key(
+// A line, with true for the last one.
+pub(crate) fn take_line(
     draft: &mut Draft,
     number: usize,
-    key: Token,
-    value: &[u8],
+    line: &[u8],
 ) -> Result<bool, SequenceFault>
-    requires key_at { KeyAt 1 key }
-    requires value_len_bound { length (token_bytes key) + length value.now ≤ 40960 }
-    ensures { Takes (take_key (key_named (token_bytes key.entry)) (plan_of draft.old) number (token_bytes key.entry, value.now)) (plan_of draft.old) (plan_of draft.new) result }
+    ensures { Takes (take_line (plan_of draft.old) number line.now) (plan_of draft.old) (plan_of draft.new) result }
 {
+    let (key, value) = key_and_value(line, number)?;
     let Some(kind) = key_named(key.bytes()) else {
         return Err(not_allowed(number));
     };
@@ -44,18 +39,5 @@ fn take_key(
             column: 1,
         }));
     }
-    take_value(draft, kind, value_place(key, number), value)
-}
-
-// A line, with true for the last one.
-pub(crate) fn take_line(
-    draft: &mut Draft,
-    number: usize,
-    line: &[u8],
-) -> Result<bool, SequenceFault>
-    requires { length line.now ≤ 40960 }
-    ensures { Takes (take_line (plan_of draft.old) number line.now) (plan_of draft.old) (plan_of draft.new) result }
-{
-    let (key, value) = key_and_value(line, number)?;
-    take_key(draft, number, key, value)
+    take_value(draft, kind, value)
 }

@@ -1,11 +1,12 @@
 // What the value of a line does to a draft, by the kind of the line.
-ghost use Rattle.std.specs.Prelude.{◌≡◌, ◌+◌, ◌^◌, ◌<◌, length};
+ghost use Rattle.std.specs.Prelude.{◌≡◌};
 ghost use Rattle.lexical.specs.declared.key.Key.TheVariants as kind;
 ghost use Rattle.sequence.specs.Model.{plan_of, Adds};
 ghost use Rattle.grammar.specs.Lines.{there};
 ghost use Rattle.lines.specs.Values.{there_of};
 ghost use Rattle.reader.specs.Taking.{TakesValue, add_assignment, placed};
 
+use fields::text::FieldText;
 use lexical::fault::{LineFault, Place, SequenceFault};
 use lexical::key::Key;
 use lines::condition::{clock_line, difference_line, value_line};
@@ -21,14 +22,8 @@ use sequence::draft::Draft;
 fn present(draft: &Draft) -> Present
     ensures { there_of result ≡ there (plan_of draft.now) }
 {
-    let counts = draft.scope().counts;
     Present {
-        automata: counts.automata,
-        clocks: counts.clocks,
-        triggers: counts.triggers,
-        channels: counts.channels,
-        variables: draft.variables().len(),
-        tasks: draft.tasks().len(),
+        scope: draft.scope(),
         locations: draft.locations().len(),
     }
 }
@@ -55,109 +50,92 @@ fn add_assignment(draft: &mut Draft, assignment: Assignment) -> Result<(), Rule>
 }
 
 // A variable.
-fn take_variable(draft: &mut Draft, at: Place, value: &[u8]) -> Result<bool, SequenceFault>
-    requires { at.column + length value.now < 2 ^ 64 }
-    ensures { TakesValue kind.Var (plan_of draft.old) at value.now (plan_of draft.new) result }
+fn take_variable(draft: &mut Draft, value: FieldText) -> Result<bool, SequenceFault>
+    ensures { TakesValue kind.Var (plan_of draft.old) value.entry.at value.entry.bytes.now (plan_of draft.new) result }
 {
-    let variable = variable_line(value, at)?;
-    placed(draft.add_variable(variable), at)
+    let variable = variable_line(value)?;
+    placed(draft.add_variable(variable), value.at)
 }
 
 // A task.
-fn take_task(draft: &mut Draft, at: Place, value: &[u8]) -> Result<bool, SequenceFault>
-    requires { at.column + length value.now < 2 ^ 64 }
-    ensures { TakesValue kind.Task (plan_of draft.old) at value.now (plan_of draft.new) result }
+fn take_task(draft: &mut Draft, value: FieldText) -> Result<bool, SequenceFault>
+    ensures { TakesValue kind.Task (plan_of draft.old) value.entry.at value.entry.bytes.now (plan_of draft.new) result }
 {
-    let task = task_line(value, at)?;
-    placed(draft.add_task(task), at)
+    let task = task_line(value)?;
+    placed(draft.add_task(task), value.at)
 }
 
 // An assignment.
-fn take_assignment(draft: &mut Draft, at: Place, value: &[u8]) -> Result<bool, SequenceFault>
-    requires { at.column + length value.now < 2 ^ 64 }
-    ensures { TakesValue kind.Set (plan_of draft.old) at value.now (plan_of draft.new) result }
+fn take_assignment(draft: &mut Draft, value: FieldText) -> Result<bool, SequenceFault>
+    ensures { TakesValue kind.Set (plan_of draft.old) value.entry.at value.entry.bytes.now (plan_of draft.new) result }
 {
-    let assignment = assignment_line(value, at, present(draft))?;
-    placed(add_assignment(draft, assignment), at)
+    let assignment = assignment_line(value, present(draft))?;
+    placed(add_assignment(draft, assignment), value.at)
 }
 
 // A location.
-fn take_location(draft: &mut Draft, at: Place, value: &[u8]) -> Result<bool, SequenceFault>
-    requires { at.column + length value.now < 2 ^ 64 }
-    ensures { TakesValue kind.Loc (plan_of draft.old) at value.now (plan_of draft.new) result }
+fn take_location(draft: &mut Draft, value: FieldText) -> Result<bool, SequenceFault>
+    ensures { TakesValue kind.Loc (plan_of draft.old) value.entry.at value.entry.bytes.now (plan_of draft.new) result }
 {
-    let location = location_line(value, at, present(draft))?;
-    placed(draft.add_location(location), at)
+    let location = location_line(value, present(draft))?;
+    placed(draft.add_location(location), value.at)
 }
 
 // An invariant.
-fn take_invariant(draft: &mut Draft, at: Place, value: &[u8]) -> Result<bool, SequenceFault>
-    requires { at.column + length value.now < 2 ^ 64 }
-    ensures { TakesValue kind.Inv (plan_of draft.old) at value.now (plan_of draft.new) result }
+fn take_invariant(draft: &mut Draft, value: FieldText) -> Result<bool, SequenceFault>
+    ensures { TakesValue kind.Inv (plan_of draft.old) value.entry.at value.entry.bytes.now (plan_of draft.new) result }
 {
-    let invariant = invariant_line(value, at, present(draft))?;
-    placed(draft.add_invariant(invariant), at)
+    let invariant = invariant_line(value, present(draft))?;
+    placed(draft.add_invariant(invariant), value.at)
 }
 
 // An edge.
-fn take_edge(draft: &mut Draft, at: Place, value: &[u8]) -> Result<bool, SequenceFault>
-    requires { at.column + length value.now < 2 ^ 64 }
-    ensures { TakesValue kind.Edge (plan_of draft.old) at value.now (plan_of draft.new) result }
+fn take_edge(draft: &mut Draft, value: FieldText) -> Result<bool, SequenceFault>
+    ensures { TakesValue kind.Edge (plan_of draft.old) value.entry.at value.entry.bytes.now (plan_of draft.new) result }
 {
-    let edge = edge_line(value, at, present(draft))?;
-    placed(draft.add_edge(edge), at)
+    let edge = edge_line(value, present(draft))?;
+    placed(draft.add_edge(edge), value.at)
 }
 
 // A condition on a clock.
-fn take_clock_condition(draft: &mut Draft, at: Place, value: &[u8]) -> Result<bool, SequenceFault>
-    requires { at.column + length value.now < 2 ^ 64 }
-    ensures { TakesValue kind.Clk (plan_of draft.old) at value.now (plan_of draft.new) result }
+fn take_clock_condition(draft: &mut Draft, value: FieldText) -> Result<bool, SequenceFault>
+    ensures { TakesValue kind.Clk (plan_of draft.old) value.entry.at value.entry.bytes.now (plan_of draft.new) result }
 {
-    let condition = clock_line(value, at, present(draft))?;
-    placed(draft.add_condition(condition), at)
+    let condition = clock_line(value, present(draft))?;
+    placed(draft.add_condition(condition), value.at)
 }
 
 // A condition on the difference of two clocks.
-fn take_difference_condition(
-    draft: &mut Draft,
-    at: Place,
-    value: &[u8],
-) -> Result<bool, SequenceFault>
-    requires { at.column + length value.now < 2 ^ 64 }
-    ensures { TakesValue kind.Dif (plan_of draft.old) at value.now (plan_of draft.new) result }
+fn take_difference_condition(draft: &mut Draft, value: FieldText) -> Result<bool, SequenceFault>
+    ensures { TakesValue kind.Dif (plan_of draft.old) value.entry.at value.entry.bytes.now (plan_of draft.new) result }
 {
-    let condition = difference_line(value, at, present(draft))?;
-    placed(draft.add_condition(condition), at)
+    let condition = difference_line(value, present(draft))?;
+    placed(draft.add_condition(condition), value.at)
 }
 
 // A condition on a variable.
-fn take_variable_condition(
-    draft: &mut Draft,
-    at: Place,
-    value: &[u8],
-) -> Result<bool, SequenceFault>
-    requires { at.column + length value.now < 2 ^ 64 }
-    ensures { TakesValue kind.Val (plan_of draft.old) at value.now (plan_of draft.new) result }
+fn take_variable_condition(draft: &mut Draft, value: FieldText) -> Result<bool, SequenceFault>
+    ensures { TakesValue kind.Val (plan_of draft.old) value.entry.at value.entry.bytes.now (plan_of draft.new) result }
 {
-    let condition = value_line(value, at, present(draft))?;
-    placed(draft.add_condition(condition), at)
+    let condition = value_line(value, present(draft))?;
+    placed(draft.add_condition(condition), value.at)
 }
 
 // A clock to zero.
-fn take_reset(draft: &mut Draft, at: Place, value: &[u8]) -> Result<bool, SequenceFault>
-    ensures { TakesValue kind.Zero (plan_of draft.old) at value.now (plan_of draft.new) result }
+fn take_reset(draft: &mut Draft, value: FieldText) -> Result<bool, SequenceFault>
+    ensures { TakesValue kind.Zero (plan_of draft.old) value.entry.at value.entry.bytes.now (plan_of draft.new) result }
 {
-    let reset = reset_line(value, at, present(draft))?;
-    placed(draft.add_reset(reset), at)
+    let reset = reset_line(value, present(draft))?;
+    placed(draft.add_reset(reset), value.at)
 }
 
 // The last line says how many edges there are.
-fn take_edge_count(draft: &Draft, at: Place, value: &[u8]) -> Result<bool, SequenceFault>
-    ensures { TakesValue kind.Edges (plan_of draft.now) at value.now (plan_of draft.now) result }
+fn take_edge_count(draft: &Draft, value: FieldText) -> Result<bool, SequenceFault>
+    ensures { TakesValue kind.Edges (plan_of draft.now) value.entry.at value.entry.bytes.now (plan_of draft.now) result }
 {
-    let count = edge_count_line(value, at)?;
+    let count = edge_count_line(value)?;
     if count as usize != draft.edges().len() {
-        return Err(SequenceFault::WrongEdgeCount(at));
+        return Err(SequenceFault::WrongEdgeCount(value.at));
     }
     Ok(true)
 }
@@ -166,27 +144,25 @@ fn take_edge_count(draft: &Draft, at: Place, value: &[u8]) -> Result<bool, Seque
 pub(crate) fn take_value(
     draft: &mut Draft,
     key: Key,
-    at: Place,
-    value: &[u8],
+    value: FieldText,
 ) -> Result<bool, SequenceFault>
-    requires { at.column + length value.now < 2 ^ 64 }
-    ensures { TakesValue key (plan_of draft.old) at value.now (plan_of draft.new) result }
+    ensures { TakesValue key (plan_of draft.old) value.entry.at value.entry.bytes.now (plan_of draft.new) result }
 {
     match key {
         // never allowed behind the counts
         Key::Form | Key::Autos | Key::Clocks | Key::Triggers | Key::Chans => Err(
-            SequenceFault::Line(LineFault::KeyNotAllowed(at)),
+            SequenceFault::Line(LineFault::KeyNotAllowed(value.at)),
         ),
-        Key::Var => take_variable(draft, at, value),
-        Key::Task => take_task(draft, at, value),
-        Key::Set => take_assignment(draft, at, value),
-        Key::Loc => take_location(draft, at, value),
-        Key::Inv => take_invariant(draft, at, value),
-        Key::Edge => take_edge(draft, at, value),
-        Key::Clk => take_clock_condition(draft, at, value),
-        Key::Dif => take_difference_condition(draft, at, value),
-        Key::Val => take_variable_condition(draft, at, value),
-        Key::Zero => take_reset(draft, at, value),
-        Key::Edges => take_edge_count(draft, at, value),
+        Key::Var => take_variable(draft, value),
+        Key::Task => take_task(draft, value),
+        Key::Set => take_assignment(draft, value),
+        Key::Loc => take_location(draft, value),
+        Key::Inv => take_invariant(draft, value),
+        Key::Edge => take_edge(draft, value),
+        Key::Clk => take_clock_condition(draft, value),
+        Key::Dif => take_difference_condition(draft, value),
+        Key::Val => take_variable_condition(draft, value),
+        Key::Zero => take_reset(draft, value),
+        Key::Edges => take_edge_count(draft, value),
     }
 }

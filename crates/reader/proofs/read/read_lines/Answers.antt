@@ -4,10 +4,6 @@ use Rattle.sequence.specs.Model.{plan_of}
 use Rattle.reader.proofs.Stepping.{shorter, at_last, at_more, at_fault, no_line}
 use Rattle.reader.proofs.read.read_lines.Goals as goal
 
-pub take_line-requires : goal.take_line-requires
-take_line-requires c =
-    omega (arith, shorter (plan_of c.loop-line.draft) c.loop-line.number c.loop-line.rest.now c.in-Some.line.now c.in-Some.more.now c.in-Some.ensures, c.loop-line.invariant.1, c.loop-line.invariant.2, c.requires)
-
 pub returns-in_err-last : goal.returns-in_err-last
 returns-in_err-last c =
     let p = err_from_is_err_and c.from_residual.result c.from_residual.ensures.1 in

@@ -13,13 +13,13 @@ pub returns-in_err-condition : goal.returns-in_err-condition
 returns-in_err-condition c l r =
     let p = plan_of c.args.draft.now in
     let e = c.in_err-condition.field-0.0 in
-    passed_on p (take_value Clk p c.args.at c.args.value.now) e c.from_residual.result c.from_residual.ensures.1
-    (faulted p Clk clock_condition c.args.at c.args.value.now e (at_there p Clk clock_condition c.args.at c.args.value.now (there_of c.present.result) c.present.ensures (Err e) c.in_err-condition.ensures))
+    passed_on p (take_value Clk p c.args.value.at c.args.value.bytes.now) e c.from_residual.result c.from_residual.ensures.1
+    (faulted p Clk clock_condition c.args.value.at c.args.value.bytes.now e (at_there p Clk clock_condition c.args.value.at c.args.value.bytes.now (there_of c.present.result) c.present.ensures (Err e) c.in_err-condition.ensures))
 
 pub returns : goal.returns
 returns c l r =
     let p = plan_of c.args.draft.now in
     let after = plan_of c.add_condition.new.self in
     let x = c.in_ok-condition.condition in
-    subst (λ (y : Result Bool SequenceFault). Takes (take_value Clk p c.args.at c.args.value.now) p after y) (sym c.placed.ensures)
-    (clock_taken p c.args.at c.args.value.now after c.add_condition.result (sound_facts p c.args.draft.now.valid) x (at_there p Clk clock_condition c.args.at c.args.value.now (there_of c.present.result) c.present.ensures (Ok x) c.in_ok-condition.ensures) c.add_condition.ensures l r)
+    subst (λ (y : Result Bool SequenceFault). Takes (take_value Clk p c.args.value.at c.args.value.bytes.now) p after y) (sym c.placed.ensures)
+    (clock_taken p c.args.value.at c.args.value.bytes.now after c.add_condition.result (sound_facts p c.args.draft.now.valid) x (at_there p Clk clock_condition c.args.value.at c.args.value.bytes.now (there_of c.present.result) c.present.ensures (Ok x) c.in_ok-condition.ensures) c.add_condition.ensures l r)
