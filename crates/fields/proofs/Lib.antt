@@ -1,4 +1,5 @@
 pub mod Counting
 pub mod Splitting
 pub mod Filling
+mod Reading
 mod Words

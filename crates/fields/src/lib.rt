@@ -3,5 +3,6 @@
 
 pub mod field;
 mod number;
+pub mod numeral;
 pub mod text;
 pub mod value;

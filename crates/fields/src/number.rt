@@ -1,7 +1,7 @@
 // Numbers of any length, spelt well first and in range second.
-ghost use Rattle.std.specs.Prelude.{◌≡◌, pred, ◌≤◌, true, false, not, ◌&&◌, negsuc, ◌≤ℤ◌, IfOk, MatchOption, ◌==◌};
+ghost use Rattle.std.specs.Prelude.{◌≡◌, pred, true, false, not, ◌&&◌, pos, negsuc, ◌≤ℤ◌, IfOk, MatchOption, ◌==◌};
 ghost use Rattle.std.specs.Str.{all_ascii_digits};
-ghost use Rattle.lexical.specs.Numbers.{spelt, spelt_signed, said, value, natural_of, integer_of};
+ghost use Rattle.lexical.specs.Numbers.{spelt, spelt_signed, said, value, integer_of};
 ghost use Rattle.fields.specs.Near.{Capped, Near};
 
 use lexical::fault::{NumberFault, Place};
@@ -60,28 +60,17 @@ fn number(text: &[u8]) -> Option<i64>
     }
 }
 
-// A number from `low` to `high`, none of them below 0.
-pub fn natural_at(text: &[u8], at: Place, low: u32, high: u32) -> Result<u32, NumberFault>
-    ensures read { result ≡ natural_of low high at text.now }
-    ensures within { IfOk result (λ n. (low ≤ n) × (n ≤ high)) }
-{
-    match number(text) {
-        None => Err(NumberFault::Misspelt(at)),
-        Some(z) if z < low as i64 => Err(NumberFault::OutOfRange(at)),
-        Some(z) if z > high as i64 => Err(NumberFault::OutOfRange(at)),
-        Some(z) => Ok(z as u32),
-    }
-}
-
-// A number from `low` to `high`.
-pub fn integer_at(text: &[u8], at: Place, low: i32, high: i32) -> Result<i32, NumberFault>
+// A number from `low` to `high`, which are numbers of 32 bits.
+pub fn integer_at(text: &[u8], at: Place, low: i64, high: i64) -> Result<i64, NumberFault>
+    requires least { (negsuc 2147483647 ≤ℤ low) × (low ≤ℤ pos 4294967295) }
+    requires greatest { (negsuc 2147483647 ≤ℤ high) × (high ≤ℤ pos 4294967295) }
     ensures read { result ≡ integer_of low high at text.now }
     ensures within { IfOk result (λ z. (low ≤ℤ z) × (z ≤ℤ high)) }
 {
     match number(text) {
         None => Err(NumberFault::Misspelt(at)),
-        Some(z) if z < low as i64 => Err(NumberFault::OutOfRange(at)),
-        Some(z) if z > high as i64 => Err(NumberFault::OutOfRange(at)),
-        Some(z) => Ok(z as i32),
+        Some(z) if z < low => Err(NumberFault::OutOfRange(at)),
+        Some(z) if z > high => Err(NumberFault::OutOfRange(at)),
+        Some(z) => Ok(z),
     }
 }

@@ -1,30 +1,20 @@
 // What the tokens of fields say.
-ghost use Rattle.std.specs.Prelude.{◌≡◌, ℕ, ◌≤◌, List, ◌≤ℤ◌, IfOk};
+ghost use Rattle.std.specs.Prelude.{◌≡◌, ℕ, List, pos, negsuc, ◌≤ℤ◌, IfOk};
 ghost use Rattle.lexical.specs.Faults.{place};
-ghost use Rattle.lexical.specs.Numbers.{natural_of, integer_of};
+ghost use Rattle.lexical.specs.Numbers.{integer_of};
 ghost use Rattle.lexical.specs.Tokens.{IsToken};
 ghost use Rattle.lexical.specs.Fields.{reference as reference_field, optional, relation as relation_field, strictness as strictness_field, lettered as lettered_by, label as label_field};
 
-use crate::number::{integer_at, natural_at};
+use crate::number::integer_at;
+use crate::numeral::Numeral;
 use lexical::fault::{LineFault, NumberFault, Place, SequenceFault};
 use lexical::token::{Token, token_of};
 use parts::part::{Label, Relation};
 
-// A number from `low` to `high`, none of them below 0.
-pub fn natural(token: Token, line: usize, low: u32, high: u32) -> Result<u32, NumberFault>
-    ensures read { (field : List ℕ) (column : ℕ) → IsToken field column token.entry → result ≡ natural_of low high (place line column) field }
-    ensures within { IfOk result (λ n. (low ≤ n) × (n ≤ high)) }
-{
-    match token {
-        Token::Number(text, column) => natural_at(text, Place { line, column }, low, high),
-        Token::Key(_, column) | Token::Word(_, column) | Token::Dash(column) => Err(
-            NumberFault::Misspelt(Place { line, column }),
-        ),
-    }
-}
-
-// A number from `low` to `high`.
-pub fn integer(token: Token, line: usize, low: i32, high: i32) -> Result<i32, NumberFault>
+// A number from `low` to `high`, which are numbers of 32 bits.
+fn integer(token: Token, line: usize, low: i64, high: i64) -> Result<i64, NumberFault>
+    requires least { (negsuc 2147483647 ≤ℤ low) × (low ≤ℤ pos 4294967295) }
+    requires greatest { (negsuc 2147483647 ≤ℤ high) × (high ≤ℤ pos 4294967295) }
     ensures read { (field : List ℕ) (column : ℕ) → IsToken field column token.entry → result ≡ integer_of low high (place line column) field }
     ensures within { IfOk result (λ z. (low ≤ℤ z) × (z ≤ℤ high)) }
 {
@@ -36,26 +26,27 @@ pub fn integer(token: Token, line: usize, low: i32, high: i32) -> Result<i32, Nu
     }
 }
 
-// A number from `low` to `high`, of 16 bits.
-pub fn short_integer(token: Token, line: usize, low: i16, high: i16) -> Result<i16, NumberFault>
-    ensures { (field : List ℕ) (column : ℕ) → IsToken field column token.entry → result ≡ integer_of low high (place line column) field }
+// A number from `low` to `high`.
+pub fn number<T: Numeral>(token: Token, line: usize, low: T, high: T) -> Result<T, NumberFault>
+    ensures read { (field : List ℕ) (column : ℕ) → IsToken field column token.entry → result ≡ T.read low high (place line column) field }
+    ensures within { IfOk result (λ x. (T.value low ≤ℤ T.value x) × (T.value x ≤ℤ T.value high)) }
 {
-    let z = integer(token, line, low as i32, high as i32)?;
-    Ok(z as i16)
+    let z = integer(token, line, low.wide(), high.wide())?;
+    Ok(T::narrow(z, low, high))
 }
 
 // The number of something that is there, of so many.
 pub fn reference(token: Token, line: usize, many: usize) -> Result<u8, SequenceFault>
     ensures { (field : List ℕ) (column : ℕ) → IsToken field column token.entry → result ≡ (reference_field many).parse (place line column) field }
 {
-    let n = natural(token, line, 0, 255)?;
+    let n = number(token, line, 0u8, 255)?;
     if n as usize >= many {
         return Err(SequenceFault::NothingThere(Place {
             line,
             column: token.column(),
         }));
     }
-    Ok(n as u8)
+    Ok(n)
 }
 
 // A dash for none, or the number of something that is there.

@@ -6,7 +6,7 @@ ghost use Rattle.lines.specs.Values.{part_of, there_of};
 
 use crate::present::Present;
 use fields::text::FieldText;
-use fields::value::{integer, natural, reference, relation, short_integer};
+use fields::value::{number, reference, relation};
 use lexical::fault::SequenceFault;
 use lexical::token::Token;
 use parts::part::Condition;
@@ -20,7 +20,7 @@ pub fn clock_line(value: FieldText, present: Present) -> Result<Condition, Seque
     let [x, y, z] = tokens;
     let clock = reference(x, value.at.line, present.scope.counts.clocks as usize)?;
     let relation = relation(y, value.at.line)?;
-    let constant = natural(z, value.at.line, 0, 1000000000)?;
+    let constant = number(z, value.at.line, 0, 1000000000)?;
     Ok(Condition::Clock(clock, relation, constant))
 }
 
@@ -34,7 +34,7 @@ pub fn difference_line(value: FieldText, present: Present) -> Result<Condition, 
     let first = reference(x, value.at.line, present.scope.counts.clocks as usize)?;
     let second = reference(y, value.at.line, present.scope.counts.clocks as usize)?;
     let relation = relation(z, value.at.line)?;
-    let constant = integer(w, value.at.line, -1000000000, 1000000000)?;
+    let constant = number(w, value.at.line, -1000000000, 1000000000)?;
     Ok(Condition::Difference(first, second, relation, constant))
 }
 
@@ -47,6 +47,6 @@ pub fn value_line(value: FieldText, present: Present) -> Result<Condition, Seque
     let [x, y, z] = tokens;
     let variable = reference(x, value.at.line, present.scope.variables)?;
     let relation = relation(y, value.at.line)?;
-    let constant = short_integer(z, value.at.line, -32768, 32767)?;
+    let constant = number(z, value.at.line, -32768, 32767)?;
     Ok(Condition::Variable(variable, relation, constant))
 }

@@ -6,7 +6,6 @@ ghost use Rattle.lexical.specs.Tokens.{KeyAt, token_bytes};
 ghost use Rattle.grammar.specs.Reading.{key_and_value, value_place, counted as CountedOf, count_line, read_counts};
 
 use fields::text::FieldText;
-use fields::value::natural;
 use lexical::bytes::cut_at;
 use lexical::fault::{LineFault, Place, SequenceFault};
 use lexical::key::{Key, key_named};
@@ -54,7 +53,7 @@ fn counted(key: Key, low: u32, high: u32, number: usize, line: &[u8]) -> Result<
     let mut tokens = [Token::Dash(0); 1];
     value.split_into(&mut tokens)?;
     let [x] = tokens;
-    Ok(natural(x, number, low, high)?)
+    Ok(fields::value::number(x, number, low, high)?)
 }
 
 // The number on the first line, which has to have this key, and the text behind that line.

@@ -7,7 +7,7 @@ ghost use Rattle.lines.specs.Values.{part_of, there_of, reset_of, edge_count_of}
 
 use crate::present::Present;
 use fields::text::FieldText;
-use fields::value::{label, natural, reference};
+use fields::value::{label, number, reference};
 use lexical::fault::SequenceFault;
 use lexical::token::Token;
 use parts::part::{Edge, Reset};
@@ -55,5 +55,5 @@ pub fn edge_count_line(value: FieldText) -> Result<u32, SequenceFault>
     let mut tokens = [Token::Dash(0); 1];
     value.split_into(&mut tokens)?;
     let [x] = tokens;
-    Ok(natural(x, value.at.line, 0, 128)?)
+    Ok(number(x, value.at.line, 0, 128)?)
 }

@@ -6,7 +6,7 @@ ghost use Rattle.lines.specs.Values.{part_of, there_of};
 
 use crate::present::Present;
 use fields::text::FieldText;
-use fields::value::{natural, optional_reference, reference, strictness};
+use fields::value::{number, optional_reference, reference, strictness};
 use lexical::fault::SequenceFault;
 use lexical::token::Token;
 use parts::part::{Invariant, Location};
@@ -36,7 +36,7 @@ pub fn invariant_line(value: FieldText, present: Present) -> Result<Invariant, S
     let [x, y, z] = tokens;
     let clock = reference(x, value.at.line, present.scope.counts.clocks as usize)?;
     let strict = strictness(y, value.at.line)?;
-    let bound = natural(z, value.at.line, 0, 1000000000)?;
+    let bound = number(z, value.at.line, 0, 1000000000)?;
     Ok(Invariant {
         clock,
         strict,

@@ -6,7 +6,7 @@ ghost use Rattle.grammar.specs.Reading.{task_of};
 ghost use Rattle.lines.specs.Values.{part_of};
 
 use fields::text::FieldText;
-use fields::value::natural;
+use fields::value::number;
 use lexical::fault::SequenceFault;
 use lexical::token::Token;
 use parts::part::Task;
@@ -18,13 +18,13 @@ pub fn task_line(value: FieldText) -> Result<Task, SequenceFault>
     let mut tokens = [Token::Dash(0); 3];
     value.split_into(&mut tokens)?;
     let [x, y, z] = tokens;
-    let cost = natural(x, value.at.line, 1, 1000000)?;
-    let deadline = natural(y, value.at.line, cost, 1000000)?;
-    let priority = natural(z, value.at.line, 0, 255)?;
+    let cost = number(x, value.at.line, 1, 1000000)?;
+    let deadline = number(y, value.at.line, cost, 1000000)?;
+    let priority = number(z, value.at.line, 0, 255)?;
     Ok(Task {
         cost,
         deadline,
-        priority: priority as u8,
+        priority,
         assignments: [None; 4],
     })
 }

@@ -7,7 +7,7 @@ ghost use Rattle.lines.specs.Values.{part_of, there_of};
 
 use crate::present::Present;
 use fields::text::FieldText;
-use fields::value::{optional_reference, reference, short_integer};
+use fields::value::{number, optional_reference, reference};
 use lexical::fault::SequenceFault;
 use lexical::token::Token;
 use parts::part::{Assignment, Variable};
@@ -19,9 +19,9 @@ pub fn variable_line(value: FieldText) -> Result<Variable, SequenceFault>
     let mut tokens = [Token::Dash(0); 3];
     value.split_into(&mut tokens)?;
     let [x, y, z] = tokens;
-    let low = short_integer(x, value.at.line, -32768, 32767)?;
-    let high = short_integer(y, value.at.line, low, 32767)?;
-    let start = short_integer(z, value.at.line, low, high)?;
+    let low = number(x, value.at.line, -32768, 32767)?;
+    let high = number(y, value.at.line, low, 32767)?;
+    let start = number(z, value.at.line, low, high)?;
     Ok(Variable { low, high, start })
 }
 
@@ -34,7 +34,7 @@ pub fn assignment_line(value: FieldText, present: Present) -> Result<Assignment,
     let [x, y, z] = tokens;
     let target = reference(x, value.at.line, present.scope.variables)?;
     let source = optional_reference(y, value.at.line, present.scope.variables)?;
-    let constant = short_integer(z, value.at.line, -32768, 32767)?;
+    let constant = number(z, value.at.line, -32768, 32767)?;
     Ok(Assignment {
         target,
         source,

@@ -25,15 +25,15 @@ returns-in_err-split_into-clause-read c =
     (ap (λ e. Err (Line e)) (c.in_err-split_into.ensures.0 ∙ ap FieldCount c.in_ok-name.ensures.placed)
     ∙ other_count c.args.key c.args.low c.args.high c.args.number c.args.line.now k c.in_ok-name.value.bytes.now c.in_ok-name.ensures.parted s c.in_err-split_into.ensures.1)
 
-pub returns-in_err-natural-clause-read : goal.returns-in_err-natural-clause-read
-returns-in_err-natural-clause-read c =
+pub returns-in_err-number-clause-read : goal.returns-in_err-number-clause-read
+returns-in_err-number-clause-read c =
     let k = token_bytes c.in_ok-name.name in
     let v = c.in_ok-name.value.bytes.now in
     let s = named k c.args.key c.ne.result c.key_named.result (c.key_named.ensures ∙ ap key_named c.bytes.ensures) c.ne.ensures c.if-ne.false in
     let f = one_of v (value_place c.args.number k) c.split_into.new.tokens _ (search rules) (rw c.in_ok-name.ensures.placed at c.in_ok-split_into.ensures) in
-    gone c.from_residual-in_err-natural.result _ c.from_residual-in_err-natural.ensures.1
-    (one_number c.args.key c.args.low c.args.high c.args.number c.args.line.now k v c.in_ok-name.ensures.parted s f (Err (Line (Number c.in_err-natural.field-0.0)))
-    (ap numeral (c.in_err-natural.ensures.read f.x (value_place c.args.number k).column f.first)))
+    gone c.from_residual-in_err-number.result _ c.from_residual-in_err-number.ensures.1
+    (one_number c.args.key c.args.low c.args.high c.args.number c.args.line.now k v c.in_ok-name.ensures.parted s f (Err (Line (Number c.in_err-number.field-0.0)))
+    (ap numeral (c.in_err-number.ensures.read f.x (value_place c.args.number k).column f.first)))
 
 pub returns-clause-read : goal.returns-clause-read
 returns-clause-read c =
@@ -41,5 +41,5 @@ returns-clause-read c =
     let v = c.in_ok-name.value.bytes.now in
     let s = named k c.args.key c.ne.result c.key_named.result (c.key_named.ensures ∙ ap key_named c.bytes.ensures) c.ne.ensures c.if-ne.false in
     let f = one_of v (value_place c.args.number k) c.split_into.new.tokens _ (search rules) (rw c.in_ok-name.ensures.placed at c.in_ok-split_into.ensures) in
-    one_number c.args.key c.args.low c.args.high c.args.number c.args.line.now k v c.in_ok-name.ensures.parted s f (Ok c.in_ok-natural.field-0)
-    (ap numeral (c.in_ok-natural.ensures.read f.x (value_place c.args.number k).column f.first))
+    one_number c.args.key c.args.low c.args.high c.args.number c.args.line.now k v c.in_ok-name.ensures.parted s f (Ok c.in_ok-number.field-0)
+    (ap numeral (c.in_ok-number.ensures.read f.x (value_place c.args.number k).column f.first))

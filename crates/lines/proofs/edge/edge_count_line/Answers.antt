@@ -7,15 +7,15 @@ use Rattle.lines.proofs.Shapes.{one_of}
 use Rattle.lines.proofs.Rows.{gone, one_only}
 use Rattle.lines.proofs.edge.edge_count_line.Goals as goal
 
-pub returns-in_err-natural : goal.returns-in_err-natural
-returns-in_err-natural c =
+pub returns-in_err-number : goal.returns-in_err-number
+returns-in_err-number c =
     let f = one_of c.args.value.bytes.now c.args.value.at c.split_into.new.tokens _ (search rules) c.in_ok-split_into.ensures in
-    gone c.from_residual-in_err-natural.result _ c.from_residual-in_err-natural.ensures.1
-    (one_only (count 0 128) edge_count_of c.args.value.at f (Err (Line (Number c.in_err-natural.field-0.0)))
-    (ap numeral (c.in_err-natural.ensures.read f.x c.args.value.at.column f.first)))
+    gone c.from_residual-in_err-number.result _ c.from_residual-in_err-number.ensures.1
+    (one_only (count 0 128) edge_count_of c.args.value.at f (Err (Line (Number c.in_err-number.field-0.0)))
+    (ap numeral (c.in_err-number.ensures.read f.x c.args.value.at.column f.first)))
 
 pub returns : goal.returns
 returns c =
     let f = one_of c.args.value.bytes.now c.args.value.at c.split_into.new.tokens _ (search rules) c.in_ok-split_into.ensures in
-    one_only (count 0 128) edge_count_of c.args.value.at f (Ok c.in_ok-natural.field-0)
-    (ap numeral (c.in_ok-natural.ensures.read f.x c.args.value.at.column f.first))
+    one_only (count 0 128) edge_count_of c.args.value.at f (Ok c.in_ok-number.field-0)
+    (ap numeral (c.in_ok-number.ensures.read f.x c.args.value.at.column f.first))

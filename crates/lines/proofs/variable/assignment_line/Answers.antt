@@ -30,7 +30,7 @@ returns-in_err-constant c =
     let f = three_of c.args.value.bytes.now c.args.value.at c.split_into.new.tokens _ (search rules) c.in_ok-split_into.ensures in
     gone c.from_residual-in_err-constant.result _ c.from_residual-in_err-constant.ensures.1
     (three_third (reference c.args.present.scope.variables) (λ v. optional (reference c.args.present.scope.variables)) (λ v w. integer lowest highest) assignment_of c.args.value.at f c.in_ok-target.target c.in_ok-source.source (Err (Line (Number c.in_err-constant.field-0.0)))
-    (c.in_ok-target.ensures f.x c.args.value.at.column f.first) (c.in_ok-source.ensures f.y (behind c.args.value.at f.x).column f.second) (ap numeral (c.in_err-constant.ensures f.z (behind (behind c.args.value.at f.x) f.y).column f.third)))
+    (c.in_ok-target.ensures f.x c.args.value.at.column f.first) (c.in_ok-source.ensures f.y (behind c.args.value.at f.x).column f.second) (ap numeral (c.in_err-constant.ensures.read f.z (behind (behind c.args.value.at f.x) f.y).column f.third)))
 
 pub returns : goal.returns
 returns c =
@@ -38,4 +38,4 @@ returns c =
     let fits : SFits w16 c.in_ok-constant.constant = search rules in
     ap {B = Result Assignment SequenceFault} (λ (z : ℤ). Ok (assignment_of (c.in_ok-target.target, c.in_ok-source.source, z))) (to_z-of_z w16 c.in_ok-constant.constant fits) ∙
     three_third (reference c.args.present.scope.variables) (λ v. optional (reference c.args.present.scope.variables)) (λ v w. integer lowest highest) assignment_of c.args.value.at f c.in_ok-target.target c.in_ok-source.source (Ok c.in_ok-constant.constant)
-    (c.in_ok-target.ensures f.x c.args.value.at.column f.first) (c.in_ok-source.ensures f.y (behind c.args.value.at f.x).column f.second) (ap numeral (c.in_ok-constant.ensures f.z (behind (behind c.args.value.at f.x) f.y).column f.third))
+    (c.in_ok-target.ensures f.x c.args.value.at.column f.first) (c.in_ok-source.ensures f.y (behind c.args.value.at f.x).column f.second) (ap numeral (c.in_ok-constant.ensures.read f.z (behind (behind c.args.value.at f.x) f.y).column f.third))
