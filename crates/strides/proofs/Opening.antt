@@ -44,26 +44,26 @@ pairs_by_guards s t d c = and_order (guard_holds s.zeroed s.values t d.guard) (n
 
 module _ (v : View) (d c : Edge) (s : Stretch) where
   pub never_together : could_join (state_of v) d c ≡ false → ViewFreePart v (λ t. pairs_at (state_of v) t d c ≡ false) s s
-  never_together h z = part_whole (λ t. pairs_at (state_of v) t d c ≡ false) s (λ t a b. pairs_by_guards (state_of v) t d c ∙ ap (λ x. x && (guard_holds v.valuation.zeroed.now v.valuation.values.now t d.guard && guard_holds v.valuation.zeroed.now v.valuation.values.now t c.guard)) h)
+  never_together h z w = part_whole (λ t. pairs_at (state_of v) t d c ≡ false) s (λ t a b. pairs_by_guards (state_of v) t d c ∙ ap (λ x. x && (guard_holds v.valuation.zeroed.now v.valuation.values.now t d.guard && guard_holds v.valuation.zeroed.now v.valuation.values.now t c.guard)) h)
 
   -- both guards hold together where their spans meet
   module _ (own other both : Span) (p : GuardSpans v.valuation.zeroed.now v.valuation.values.now d.guard own) (q : GuardSpans v.valuation.zeroed.now v.valuation.values.now c.guard other) (low : both.low ≡ max own.low other.low) (high : both.high ≡ min own.high other.high) where
     pub together : could_join (state_of v) d c ≡ true → (r : Stretch) → FreePart (λ t. in_span both t ≡ false) s r → ViewFreePart v (λ t. pairs_at (state_of v) t d c ≡ false) s r
-    together h r f z = part_same (λ t. in_span both t ≡ false) (λ t. pairs_at (state_of v) t d c ≡ false) s r (λ t a b e. same t a b ∙ e) (λ t a b e. sym (same t a b) ∙ e) f
+    together h r f z w = part_same (λ t. in_span both t ≡ false) (λ t. pairs_at (state_of v) t d c ≡ false) s r (λ t a b e. same t a b ∙ e) (λ t a b e. sym (same t a b) ∙ e) f
       where
         same : (t : ℕ) → s.from < t → t ≤ s.to → pairs_at (state_of v) t d c ≡ in_span both t
         same t a b =
             let g = guard_holds v.valuation.zeroed.now v.valuation.values.now t d.guard in
             let k = guard_holds v.valuation.zeroed.now v.valuation.values.now t c.guard in
-            let x : g ≡ in_span own t = p s.from z t (omega arith) (omega (arith, s.in_run)) in
-            let y : k ≡ in_span other t = q s.from z t (omega arith) (omega (arith, s.in_run)) in
+            let x : g ≡ in_span own t = p s.from z t (omega arith) (omega arith) in
+            let y : k ≡ in_span other t = q s.from z t (omega arith) (omega arith) in
             pairs_by_guards (state_of v) t d c ∙ (ap (λ u. u && (g && k)) h ∙ (ap (λ u. u && k) x ∙ (ap (λ u. in_span own t && u) y ∙ sym (meet_is own other both t low high))))
 
 -- edges one behind the other
 pub edges_folded : {F : Type 0} (v : View) (P : Edge → ℕ → Type 0) (g : Mut F (Stretch × (Bor Edge × Unit {0})) Stretch) (f : F) (s : Stretch) (it : Iter Edge) (r : Stretch) → ((m : Stretch) (x : Bor Edge) (n : Stretch) (q : F) → Called g f (m, (x, tt)) n q → ViewFreePart v (P x.now) m n × (q ≡ f)) → iter_rest it ≡ v.edges.now → Folds P g f s fronts it r → ViewFreePart v (AllFree P v.edges.now) s r
-edges_folded v P g f s it r step all ran z =
+edges_folded v P g f s it r step all ran z w =
     row_folded P g f s fronts it v.edges.now r
-    (λ m x n q e k. let next = step m x n q k in (next.0 (subst (ZeroedBy v.valuation.zeroed.now) (sym e) z), next.1))
+    (λ m x n q e l k. let next = step m x n q k in (next.0 (subst (ZeroedBy v.valuation.zeroed.now) (sym e) z) (omega arith), next.1))
     (YieldsList-from_slice v.edges.now all) ran
 
 all_of : {X : Type 0} (P : X → Type 0) (xs : List X) → ((x : X) → P x) → AllByRecursion P xs
@@ -91,7 +91,7 @@ module _ (v : View) (d : Edge) (leaves : leaves_current (state_of v).plan v.plac
       by (inr g) = all_of (λ c. pairs_at (state_of v) t d c ≡ false) v.edges.now (λ c. and_left (guard t) (fits (at_tick t (state_of v)) d c) g)
 
   pub waits_for_a_partner : (s r : Stretch) → ViewFreePart v (λ t. AllByRecursion (λ c. pairs_at (state_of v) t d c ≡ false) v.edges.now) s r → ViewFreePart v (λ t. EdgeShut (at_tick t (state_of v)) d) s r
-  waits_for_a_partner s r p z = part_same (λ t. AllByRecursion (λ c. pairs_at (state_of v) t d c ≡ false) v.edges.now) (λ t. EdgeShut (at_tick t (state_of v)) d) s r (λ t a b. shut_unpaired t) (λ t a b. unpaired_shut t) (p z)
+  waits_for_a_partner s r p z w = part_same (λ t. AllByRecursion (λ c. pairs_at (state_of v) t d c ≡ false) v.edges.now) (λ t. EdgeShut (at_tick t (state_of v)) d) s r (λ t a b. shut_unpaired t) (λ t a b. unpaired_shut t) (p z w)
 
 -- no edge is open where each is shut
 module _ (s : State) where
@@ -109,4 +109,4 @@ module _ (s : State) where
   ))
 
 pub none_opens : (v : View) (s r : Stretch) → ViewFreePart v (λ t. AllByRecursion (λ d. EdgeShut (at_tick t (state_of v)) d) v.edges.now) s r → ViewFreePart v (λ t. NoneOpen (at_tick t (state_of v))) s r
-none_opens v s r p z = part_same (λ t. AllByRecursion (λ d. EdgeShut (at_tick t (state_of v)) d) v.edges.now) (λ t. NoneOpen (at_tick t (state_of v))) s r (λ t a b. none_open (at_tick t (state_of v))) (λ t a b. all_shut (at_tick t (state_of v))) (p z)
+none_opens v s r p z w = part_same (λ t. AllByRecursion (λ d. EdgeShut (at_tick t (state_of v)) d) v.edges.now) (λ t. NoneOpen (at_tick t (state_of v))) s r (λ t a b. none_open (at_tick t (state_of v))) (λ t a b. all_shut (at_tick t (state_of v))) (p z w)

@@ -109,8 +109,8 @@ module _ {X F : Type 0} (P : X → ℕ → Type 0) (g : Mut F (Stretch × (Bor X
   abbrev pub Folds : {I : Type 0} → (I → Option (Bor X) → I → Type 0) → I → Stretch → Type 0
   Folds steps it r = (ys : List (Bor X)) × (q : F) × Drains steps it ys × FoldsTo {P = F × Stretch} (λ a x b. Called g a.0 (a.1, (x, tt)) b.1 b.0) (f, s) ys (q, r)
 
-  pub row_folded : {I : Type 0} (steps : I → Option (Bor X) → I → Type 0) (it : I) (xs : List X) (r : Stretch) → ((m : Stretch) (x : Bor X) (n : Stretch) (q : F) → m.from ≡ s.from → Called g f (m, (x, tt)) n q → FreePart (P x.now) m n × (q ≡ f)) → YieldsList steps (λ x. x.now) it xs → Folds steps it r → FreePart (AllFree P xs) s r
+  pub row_folded : {I : Type 0} (steps : I → Option (Bor X) → I → Type 0) (it : I) (xs : List X) (r : Stretch) → ((m : Stretch) (x : Bor X) (n : Stretch) (q : F) → m.from ≡ s.from → m.to ≤ s.to → Called g f (m, (x, tt)) n q → FreePart (P x.now) m n × (q ≡ f)) → YieldsList steps (λ x. x.now) it xs → Folds steps it r → FreePart (AllFree P xs) s r
   row_folded steps it xs r step gives ran =
       fold_over steps (λ x. x.now) g (λ ys m. FreePart (AllFree P ys) s m) f
-      (λ ys m x n q so_far k. let next = step m x n q so_far.same_start k in (row_more P ys x.now s m n so_far next.0, next.1))
+      (λ ys m x n q so_far k. let next = step m x n q so_far.same_start so_far.reaches.within k in (row_more P ys x.now s m n so_far next.0, next.1))
       it xs s r gives.runs (row_none P s) ran

@@ -3,6 +3,7 @@ use Rattle.std.specs.Prelude.{◌≡◌, ℕ, ◌+◌, ◌<◌, ◌≤◌, Bool,
 use Rattle.std.specs.List.{AllByRecursion}
 use Rattle.sources.specs.declared.trigger.Trigger.{Trigger}
 use Rattle.parts.specs.declared.part.Edge.{Edge}
+use Rattle.parts.specs.Limits.{last_tick}
 use Rattle.runs.specs.State.{State, automaton}
 use Rattle.runs.specs.Guards.{guard_holds}
 use Rattle.runs.specs.Edges.{leaves_current, ready, goes_alone, opposite, fits}
@@ -23,9 +24,9 @@ pub record FreePart (free : ℕ → Type 0) (s r : Stretch) : Type 0 where
   pub same_start : r.from ≡ s.from
   pub reaches : Reaches free s.from s.to r.to
 
--- the same by a view; it is right where no clock is zeroed later than the stretch starts
+-- the same by a view; it is right up to the last tick, where no clock is zeroed later than the stretch starts
 abbrev pub ViewFreePart : View → (ℕ → Type 0) → Stretch → Stretch → Type 0
-ViewFreePart v free s r = ZeroedBy v.valuation.zeroed.now s.from → FreePart free s r
+ViewFreePart v free s r = ZeroedBy v.valuation.zeroed.now s.from → s.to ≤ last_tick → FreePart free s r
 
 -- the first trigger to come, if any, comes behind a tick
 abbrev pub ComesBehind : ℕ → Option Trigger → Type 0

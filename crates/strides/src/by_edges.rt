@@ -1,5 +1,5 @@
 // Edges as obstacles of a stride: each method gives the part of a stretch in front of its obstacle.
-// It is right where no clock is zeroed later than the stretch starts.
+// It is right up to the last tick, where no clock is zeroed later than the stretch starts.
 ghost use Rattle.std.specs.Prelude.{◌≡◌, false};
 ghost use Rattle.std.specs.List.{AllByRecursion};
 ghost use Rattle.runs.specs.Guards.{guard_holds};

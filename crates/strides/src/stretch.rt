@@ -1,13 +1,11 @@
 // The ticks behind `from` up to `to`, to be passed together.
 ghost use Rattle.std.specs.Prelude.{◌≡◌, ◌≤◌, min, max};
-ghost use Rattle.parts.specs.Limits.{last_tick};
 
 #[derive(Clone, Copy)]
 pub struct Stretch {
     pub from: u32,
     pub to: u32,
     ghost forward: { from ≤ to },
-    ghost in_run: { to ≤ last_tick },
 }
 
 impl Stretch {

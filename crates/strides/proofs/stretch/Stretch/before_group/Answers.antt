@@ -10,5 +10,5 @@ returns c =
     let zeroed = c.args.zeroed.now in
     let is = c.args.invariants.now in
     group_all zeroed is c.args.self c.fold.result
-    (row_folded (λ i t. keeps zeroed t i ≡ true) _ _ c.args.self used_steps c.flatten.result (used is) c.fold.result (λ m x r q e k. (search rules, search rules))
+    (row_folded (λ i t. keeps zeroed t i ≡ true) _ _ c.args.self used_steps c.flatten.result (used is) c.fold.result (λ m x r q e l k. (search rules, search rules))
     (used_of c.flatten.result is (cc) c.flatten.ensures.front c.flatten.ensures.back c.flatten.ensures.done) c.fold.ensures.ran)

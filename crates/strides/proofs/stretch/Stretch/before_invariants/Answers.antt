@@ -9,4 +9,4 @@ pub returns : goal.returns
 returns c =
     let v = c.args.view.now in
     places_all v c.args.self c.fold.result
-    (row_folded (stays_at v) _ _ c.args.self fronts c.iter.result v.places.now c.fold.result (λ m x r q e k. (search rules, search rules)) (YieldsList-from_slice v.places.now (cc)) c.fold.ensures.ran)
+    (row_folded (stays_at v) _ _ c.args.self fronts c.iter.result v.places.now c.fold.result (λ m x r q e l k. (search rules, search rules)) (YieldsList-from_slice v.places.now (cc)) c.fold.ensures.ran)
