@@ -1,4 +1,3 @@
 pub mod Starting
 pub mod Behind
 pub mod Releasing
-pub mod Stepping

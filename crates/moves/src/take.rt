@@ -58,16 +58,10 @@ impl Engine {
     ) -> Result<(), StepFault>
         ensures { Assigns room (assign_both (state self.old).plan.variables first.now second.now (state self.old).values) (state self.old) (state self.new) result }
     {
-        let count = self.core.sequence.variables().len();
+        let variables = self.core.sequence.variables();
         // The row is copied out and back: it cannot be lent while the sequence beside it, a type with ghost fields, is.
         let mut row = self.core.values;
-        let done = run_step(
-            self.core.sequence.variables(),
-            &mut row[0..count],
-            first,
-            second,
-            room,
-        );
+        let done = run_step(variables, &mut row[..variables.len()], first, second, room);
         self.core.values = row;
         done
     }

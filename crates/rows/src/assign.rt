@@ -69,6 +69,7 @@ pub fn assign_all(
 ) -> Result<(), OutOfRange>
     ensures { GroupRun (assign_all variables.now assignments.now values.old) values.new result }
 {
+    // place by place, the empty ones too, as the definition goes
     for assignment in assignments {
         assign_one(variables, *assignment, values)?;
     }

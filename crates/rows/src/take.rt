@@ -18,6 +18,7 @@ fn reset_one(zeroed: &mut [u32], reset: Option<Reset>, tick: u32)
 pub fn reset_all(zeroed: &mut [u32], resets: &[Option<Reset>], tick: u32)
     ensures { zeroed.new ≡ reset_all tick resets.now zeroed.old }
 {
+    // place by place, the empty ones too, as the definition goes
     for reset in resets {
         reset_one(zeroed, *reset, tick);
     }
@@ -34,8 +35,7 @@ pub fn move_to(places: &mut [u8], automaton: u8, to: u8)
 pub fn take_trigger(present: &mut [bool], label: Label)
     ensures { present.new ≡ take_trigger label present.old }
 {
-    match label {
-        Label::Trigger(x) => set_item(present, x as usize, false),
-        Label::Internal | Label::Send(_) | Label::Receive(_) => {}
+    if let Label::Trigger(x) = label {
+        set_item(present, x as usize, false);
     }
 }
