@@ -92,6 +92,7 @@ fn is_there(number: Option<u8>, count: usize) -> bool
 pub fn group_fits<T: Refers>(row: &[Option<T>], scope: &Scope) -> bool
     ensures { result ≡ group_fits (T.Refers.fits scope.now) row.now }
 {
+    // a loop: for `skip_while(..).all(..)` it stayed open what the two answer together
     let mut over = false;
     for part in row {
         match part {
