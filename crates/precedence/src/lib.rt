@@ -67,6 +67,7 @@ fn place<K: Drop, T: Keyed<K>, O: Precedence<K>>(order: &O, row: &[T], x: &T) ->
 
 // Puts `x` among the first `len` records of `row`, behind those that it does not go before.
 // Where `row` has no place left for it, `x` is handed back and `row` stays as it was.
+// The length stands beside the slice, since any slice may be kept in order, not only that of a `BoundedList`.
 pub fn insert<K: Drop, T: Keyed<K> + Copy, O: Precedence<K>>(
     order: &O,
     row: &mut [T],
