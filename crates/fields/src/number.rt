@@ -53,10 +53,7 @@ fn number(text: &[u8]) -> Option<i64>
 {
     match text {
         [b'-', rest @ ..] => below_zero(rest),
-        _ => {
-            let n = magnitude(text)?;
-            Some(n as i64)
-        }
+        _ => magnitude(text).map(|n| n as i64),
     }
 }
 
@@ -69,8 +66,7 @@ pub fn integer_at(text: &[u8], at: Place, low: i64, high: i64) -> Result<i64, Nu
 {
     match number(text) {
         None => Err(NumberFault::Misspelt(at)),
-        Some(z) if z < low => Err(NumberFault::OutOfRange(at)),
-        Some(z) if z > high => Err(NumberFault::OutOfRange(at)),
+        Some(z) if z < low || z > high => Err(NumberFault::OutOfRange(at)),
         Some(z) => Ok(z),
     }
 }

@@ -16,6 +16,7 @@ fn reported(cause: u8, layer: u8, at: Place) -> Report
     }
 }
 
+// Methods, and no `From`: each impl would need its definition a second time, as a ghost member.
 impl NumberFault {
     pub fn report(self) -> Report
         ensures { result ≡ number_report self }
