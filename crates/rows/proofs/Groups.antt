@@ -1,11 +1,24 @@
 -- One assignment, and a group of assignments or resets, one after the other.
-use Rattle.std.proofs.Common.{◌≡◌, ℕ, ◌+◌, ◌<◌, ◌≤◌, List, length, get_or, drop, ℤ, Some, None, Option, sym, ap, ◌∙◌}
+use Rattle.std.proofs.Common.{◌≡◌, ℕ, ◌+◌, ◌<◌, ◌≤◌, Bool, true, false, cond, ◌&&◌, List, length, get_or, drop, set, ℤ, Some, None, Option, sym, ap, ◌∙◌, arith}
 use Rattle.std.proofs.lemmas.List.{at_drop_more, at_drop_all}
+use Rattle.std.proofs.lemmas.Bool.{lt-ltb}
 use Rattle.parts.specs.declared.part.Assignment.{Assignment}
 use Rattle.parts.specs.declared.part.Reset.{Reset}
 use Rattle.parts.specs.declared.part.Variable.{Variable}
-use Rattle.runs.specs.Values.{assign, and_then, assign_all}
+use Rattle.runs.specs.Values.{no_variable, in_range, assigned_value, assign, and_then, assign_all}
 use Rattle.runs.specs.Edges.{reset_one, reset_all}
+
+written : (values : List ℤ) (v : ℕ) (t : Bool) (x y : ℤ) → Some y ≡ cond t (Some x) None → cond t (Some (set values v x)) None ≡ Some (set values v y)
+written values v true x y e = let q : x ≡ y = cc in ap (λ (z : ℤ). Some (set values v z)) q
+written values v false x y e = let z : ◌≡◌ {A = ℕ} 0 1 = cc in absurd (omega arith)
+
+-- a value in range is written at the target
+pub assigned : (vars : List Variable) (values : List ℤ) (o : Option Assignment) (a : Assignment) (y z : ℤ) → o ≡ Some a → a.target < length values → Some y ≡ cond (in_range (get_or vars a.target no_variable) (assigned_value values a)) (Some (assigned_value values a)) None → z ≡ y → assign vars o values ≡ Some (set values a.target z)
+assigned vars values o a y z is l e q =
+    let ok = in_range (get_or vars a.target no_variable) (assigned_value values a) in
+    ap (λ (p : Option Assignment). assign vars p values) is
+    ∙ (ap (λ (t : Bool). cond (t && ok) (Some (set values a.target (assigned_value values a))) None) (lt-ltb a.target (length values) l)
+    ∙ (written values a.target ok (assigned_value values a) y e ∙ ap (λ (x : ℤ). Some (set values a.target x)) (sym q)))
 
 module _ (vars : List Variable) (as' : List (Option Assignment)) (values : List ℤ) (end : Option (List ℤ)) where
   -- what is left of the group at i gives the end
