@@ -44,9 +44,8 @@ impl<T: Wide> Wide for Option<T> {
     ghost widths = { λ o. good_or_none T.Wide.widths o };
 
     fn keeps_widths(self) {
-        match self {
-            None => {}
-            Some(part) => part.keeps_widths(),
+        if let Some(part) = self {
+            part.keeps_widths();
         }
     }
 }

@@ -30,6 +30,13 @@ impl ReadyQueue {
         self.jobs.len()
     }
 
+    // The jobs that wait, the first one in front.
+    pub fn as_slice(&self) -> &[Job]
+        ensures { result.now ≡ waiting self.now }
+    {
+        self.jobs.as_slice()
+    }
+
     // The job at a place of the queue, counted from 0.
     pub fn get(&self, place: usize) -> Option<Job>
         ensures { result ≡ slice_get (waiting self.now) place }
@@ -49,8 +56,7 @@ impl ReadyQueue {
     pub fn first_late(&self, tick: u32) -> Option<Job>
         ensures { result ≡ first_late tick (waiting self.now) }
     {
-        self.jobs
-            .as_slice()
+        self.as_slice()
             .iter()
             .copied()
             .find(|job| job.is_late(tick))

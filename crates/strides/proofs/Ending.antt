@@ -125,8 +125,9 @@ module _ (v : View) (q : ReadyQueue) (first : Option Trigger) where
     pub stays : Stays t
     pub shuts : Shuts t
 
-  pub all_obstacles : (all done in_time trigger invariant r : Stretch) → all.from ≡ v.now → FreePart AtWork all done → FreePart InTime done in_time → FreePart (λ t. ComesBehind t first) in_time trigger → FreePart Stays trigger invariant → FreePart Shuts invariant r → Reaches FreeTick v.now all.to r.to
-  all_obstacles all done in_time trigger invariant r from a b c d e =
+  pub all_obstacles : (all done in_time trigger invariant r : Stretch) → all.from ≡ v.now → FreePart (λ t. Outlasts (t - all.from) (waiting q)) all done → FreePart InTime done in_time → FreePart (λ t. ComesBehind t first) in_time trigger → FreePart Stays trigger invariant → FreePart Shuts invariant r → Reaches FreeTick v.now all.to r.to
+  all_obstacles all done in_time trigger invariant r from w b c d e =
+      let a = subst (λ n. FreePart (λ t. Outlasts (t - n) (waiting q)) all done) from w in
       let ab = part_both AtWork InTime all done in_time a b in
       let abc = part_both (λ t. AtWork t × InTime t) (λ t. ComesBehind t first) all in_time trigger ab c in
       let abcd = part_both (λ t. (AtWork t × InTime t) × ComesBehind t first) Stays all trigger invariant abc d in

@@ -1,5 +1,5 @@
 -- Obstacles one behind the other: each leaves the front part of what the one before has left.
-use Rattle.std.proofs.Common.{◌≡◌, ℕ, zero, suc, ◌+◌, ◌<◌, ◌≤◌, ◌⊎◌, List, [], ◌∷◌, ◌++◌, length, take, Some, None, Option, Bor, sym, refl, ap, ◌∙◌, subst, inl, inr, arith}
+use Rattle.std.proofs.Common.{◌≡◌, ℕ, zero, suc, ◌+◌, ◌<◌, ◌≤◌, ◌⊎◌, List, [], ◌∷◌, ◌++◌, length, Some, Option, Bor, refl, ◌∙◌, subst, inl, inr, arith}
 use denote.Param.Members.{Mut}
 use Rattle.std.specs.Fn.{Called}
 use Rattle.std.specs.Iterator.{Drains}
@@ -7,8 +7,6 @@ use Rattle.std.specs.List.{slice_get, AllByRecursion, FoldsTo}
 use Rattle.std.proofs.lemmas.Bool.{cases_lt}
 use Rattle.std.proofs.lemmas.Fn.{fold_over}
 use Rattle.std.proofs.lemmas.Iterator.{YieldsList}
-use Rattle.std.proofs.lemmas.List.{take_more, take_all}
-use Rattle.std.proofs.lemmas.Option.{slice_get_within, get_or_from_slice_get, none-some}
 use Rattle.strides.specs.declared.stretch.Stretch.{Stretch}
 use Rattle.strides.specs.Reach.{Reaches, FreePart}
 
@@ -70,11 +68,6 @@ all_pop : {X : Type 0} (P : X → Type 0) (xs : List X) (x : X) → AllByRecursi
 all_pop P [] x a = (tt, a.0)
 all_pop P (y ∷ ys) x a = let r = all_pop P ys x a.1 in ((a.0, r.0), r.1)
 
-slice_get_none : {X : Type 0} (xs : List X) (i : ℕ) → slice_get xs i ≡ None → length xs ≤ i
-slice_get_none [] i e = omega arith
-slice_get_none (x ∷ xs) zero e = absurd (none-some x (sym e))
-slice_get_none (x ∷ xs) (suc i) e = let h = slice_get_none xs i e in omega arith
-
 -- a row, each of whose items may be an obstacle
 module _ {X : Type 0} (P : X → ℕ → Type 0) where
   abbrev pub AllFree : List X → ℕ → Type 0
@@ -88,21 +81,6 @@ module _ {X : Type 0} (P : X → ℕ → Type 0) where
       part_same (λ t. AllFree xs t × P x t) (AllFree (xs ++ (x ∷ []))) s r
       (λ t l h f. all_push (λ y. P y t) xs x f.0 f.1) (λ t l h f. all_pop (λ y. P y t) xs x f)
       (part_both (AllFree xs) (P x) s m r p q)
-
-  -- by place
-  pub place_more : (xs : List X) (i : ℕ) (x : X) (s m r end : Stretch) → end ≡ r → slice_get xs i ≡ Some x → FreePart (AllFree (take i xs)) s m → FreePart (P x) m r → FreePart (AllFree (take (i + 1) xs)) s end
-  place_more xs i x s m r end is e p q =
-      let more : take (i + 1) xs ≡ take i xs ++ (x ∷ []) = take_more xs i x (slice_get_within xs i x e) ∙ ap (λ y. take i xs ++ (y ∷ [])) (get_or_from_slice_get xs i x x e) in
-      subst (λ z. FreePart (AllFree (take (i + 1) xs)) s z) (sym is) (subst (λ ys. FreePart (AllFree ys) s r) (sym more) (row_more (take i xs) x s m r p q))
-
-  pub place_skip : (xs : List X) (i : ℕ) (s m end : Stretch) → end ≡ m → slice_get xs i ≡ None → FreePart (AllFree (take i xs)) s m → FreePart (AllFree (take (i + 1) xs)) s end
-  place_skip xs i s m end is e p =
-      let past = slice_get_none xs i e in
-      let same : take (i + 1) xs ≡ take i xs = take_all (i + 1) xs (omega arith) ∙ sym (take_all i xs past) in
-      subst (λ z. FreePart (AllFree (take (i + 1) xs)) s z) (sym is) (subst (λ ys. FreePart (AllFree ys) s m) (sym same) p)
-
-  pub place_all : (xs : List X) (i : ℕ) (s r : Stretch) → length xs ≤ i → FreePart (AllFree (take i xs)) s r → FreePart (AllFree xs) s r
-  place_all xs i s r h p = subst (λ ys. FreePart (AllFree ys) s r) (take_all i xs h) p
 
 -- a chain that lowers a stretch by each item
 module _ {X F : Type 0} (P : X → ℕ → Type 0) (g : Mut F (Stretch × (Bor X × Unit {0})) Stretch) (f : F) (s : Stretch) where

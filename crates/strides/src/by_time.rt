@@ -33,14 +33,10 @@ impl Stretch {
     pub fn before_deadlines(self, queue: &ReadyQueue) -> Stretch
         ensures { FreePart (λ t. AllByRecursion (λ j. late t j ≡ false) (waiting queue.now)) self result }
     {
-        let mut part = self;
-        // by place, since the queue lends no slice of its jobs
-        for place in 0..queue.len() {
-            if let Some(job) = queue.get(place) {
-                part = part.before_deadline(&job);
-            }
-        }
-        part
+        queue
+            .as_slice()
+            .iter()
+            .fold(self, |part, job| part.before_deadline(job))
     }
 
     // A trigger comes.

@@ -26,16 +26,13 @@ pub fn stride_end(view: &View, queue: &ReadyQueue, first: Option<Trigger>, until
     if reach <= view.now {
         return view.now;
     }
-    Stretch {
-        from: view.now,
-        to: reach,
-    }
-    .before_first_job(queue)
-    .before_deadlines(queue)
-    .before_trigger(first)
-    .before_invariants(view)
-    .before_edges(view)
-    .to
+    Stretch::new(view.now, reach)
+        .before_first_job(queue)
+        .before_deadlines(queue)
+        .before_trigger(first)
+        .before_invariants(view)
+        .before_edges(view)
+        .to
 }
 
 // Quiet ticks, passed together, are a strict run without lines.

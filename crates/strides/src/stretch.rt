@@ -9,6 +9,17 @@ pub struct Stretch {
 }
 
 impl Stretch {
+    // The ticks behind one up to another; none where that one comes earlier.
+    pub fn new(from: u32, to: u32) -> Stretch
+        ensures from { result.from ≡ from }
+        ensures to { result.to ≡ max to from }
+    {
+        Stretch {
+            from,
+            to: to.max(from),
+        }
+    }
+
     // The stretch up to a tick at most, but not below where it starts.
     pub fn lowered(self, to: u32) -> Stretch
         ensures from { result.from ≡ self.from }
