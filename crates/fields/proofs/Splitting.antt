@@ -2,7 +2,6 @@
 use Rattle.std.proofs.Common.{◌≡◌, ℕ, ◌+◌, ◌<◌, true, List, [], ◌∷◌, length, Some, ap, arith, length-append}
 use Rattle.lexical.specs.Bytes.{cut, pieces}
 use Rattle.lexical.proofs.Parting.{cut_back, some, pieces_some}
-use Rattle.lexical.proofs.Cutting.{pieces_cut}
 
 pub cut_lengths : (b : ℕ) (t : List ℕ) (p : List ℕ × List ℕ) → cut b t ≡ Some p → length p.0 + (1 + length p.1) ≡ length t
 cut_lengths b t p e = omega (arith, ap length (cut_back b t p e), length-append p.0 (b ∷ p.1))

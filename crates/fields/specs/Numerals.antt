@@ -4,7 +4,7 @@ use Rattle.lexical.specs.declared.fault.Place.{Place}
 use Rattle.lexical.specs.declared.fault.NumberFault.{NumberFault}
 use Rattle.lexical.specs.declared.fault.NumberFault.TheVariants.{Misspelt, OutOfRange}
 use Rattle.lexical.specs.Numbers.{spelt_signed, said, natural, natural_of, integer_of}
-use Rattle.std.proofs.Common.{refl, ap}
+use Rattle.std.proofs.Common.{refl}
 
 -- the same number, or the same fault
 abbrev pub SameRead : {A : Type 0} → (A → ℤ) → Result A NumberFault → Result ℤ NumberFault → Type 0

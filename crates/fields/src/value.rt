@@ -31,7 +31,9 @@ pub fn number<T: Numeral>(token: Token, line: usize, low: T, high: T) -> Result<
     ensures read { (field : List ℕ) (column : ℕ) → IsToken field column token.entry → result ≡ T.read low high (place line column) field }
     ensures within { IfOk result (λ x. (T.value low ≤ℤ T.value x) × (T.value x ≤ℤ T.value high)) }
 {
-    let z = integer(token, line, low.wide(), high.wide())?;
+    let least = low.wide();
+    let greatest = high.wide();
+    let z = integer(token, line, least, greatest)?;
     Ok(T::narrow(z, low, high))
 }
 

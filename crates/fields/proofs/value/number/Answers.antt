@@ -14,10 +14,10 @@ returns-clause-read g c = λ field column h.
     let at = place c.args.line column in
     let low = g.T.Numeral.value c.args.low in
     let high = g.T.Numeral.value c.args.high in
-    let l : passed c.wide.result ≡ c.wide.result = omega (arith, ints, c.wide.ensures.short) in
-    let u : passed c.wide-2.result ≡ c.wide-2.result = omega (arith, ints, c.wide-2.ensures.short) in
-    let z : passed c.in_ok-z.z ≡ c.in_ok-z.z = omega (arith, ints, l, u, c.in_ok-z.ensures.within, c.wide.ensures.short, c.wide-2.ensures.short) in
-    let by_low = ap (λ (x : ℤ). integer_of x (passed c.wide-2.result) at field) (l ∙ c.wide.ensures.same) in
-    let by_high = ap (λ (x : ℤ). integer_of low x at field) (u ∙ c.wide-2.ensures.same) in
+    let l : passed c.wide-least.result ≡ c.wide-least.result = omega (arith, ints, c.wide-least.ensures.short) in
+    let u : passed c.wide-greatest.result ≡ c.wide-greatest.result = omega (arith, ints, c.wide-greatest.ensures.short) in
+    let z : passed c.in_ok-z.z ≡ c.in_ok-z.z = omega (arith, ints, l, u, c.in_ok-z.ensures.within, c.wide-least.ensures.short, c.wide-greatest.ensures.short) in
+    let by_low = ap (λ (x : ℤ). integer_of x (passed c.wide-greatest.result) at field) (l ∙ c.wide-least.ensures.same) in
+    let by_high = ap (λ (x : ℤ). integer_of low x at field) (u ∙ c.wide-greatest.ensures.same) in
     read_ok g.T.Numeral.value g.met.T.Numeral.injective (g.T.Numeral.read c.args.low c.args.high at field) (integer_of low high at field) c.in_ok-z.z c.narrow.result
     (g.met.T.Numeral.reads c.args.low c.args.high at field) (c.in_ok-z.ensures.read field column h ∙ (by_low ∙ by_high)) (c.narrow.ensures ∙ z)
