@@ -29,11 +29,12 @@ impl<'a> FieldText<'a> {
     }
 
     // Its fields, of which there have to be as many as `tokens` has places.
+    // They are no result `[Token; N]`: an array that borrows, of any length, has no proof yet.
     pub fn split_into(self, tokens: &mut [Token<'a>]) -> Result<(), LineFault>
         ensures { MatchResult result (λ _. AllStand self.entry.at (pieces comma self.entry.bytes.now) tokens.new) (λ e. Miscounts (length tokens.old) self.entry.bytes.now self.entry.at e) }
     {
         let mut left = Some(self);
-        // by an index: a `&mut` to a token, which borrows, has no proof yet
+        // by an index: a `&mut` to one that borrows has no proof yet
         for i in 0..tokens.len() {
             let Some(text) = left else {
                 return Err(LineFault::FieldCount(self.at));
