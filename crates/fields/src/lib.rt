@@ -4,5 +4,5 @@
 pub mod field;
 mod number;
 pub mod numeral;
+pub mod split;
 pub mod text;
-pub mod value;

@@ -1,5 +1,6 @@
 -- The first line of a text with a count.
-use Rattle.std.proofs.Common.{◌≡◌, ℕ, true, List, [], ◌∷◌, Some, None, Ok, Result, sym, ap, ◌∙◌, arith}
+use Rattle.std.proofs.Common.{◌≡◌, ℕ, true, List, [], ◌∷◌, Some, None, Ok, Err, Option, Result, MatchOption, sym, ap, ◌∙◌, subst, arith}
+use Rattle.std.specs.Option.{ok_or}
 use Rattle.lexical.specs.declared.key.Key.{Key}
 use Rattle.lexical.specs.declared.fault.SequenceFault.{SequenceFault}
 use Rattle.lexical.specs.Bytes.{cut, pieces, newline}
@@ -7,6 +8,16 @@ use Rattle.lexical.specs.Fields.{on}
 use Rattle.lexical.proofs.Cutting.{pieces_cut, pieces_none}
 use Rattle.lexical.proofs.Parting.{some, pieces_some}
 use Rattle.grammar.specs.Reading.{malformed, key_and_value, counted, count_line}
+
+-- what an option says, told by its `ok_or`
+module _ {A E : Type 0} (P : Type 0) (Q : A → Type 0) (e : E) where
+  pub some_told : (o : Option A) (x : A) → MatchOption o P Q → Ok x ≡ ok_or o e → Q x
+  some_told None x m h = absurd (let z : ◌≡◌ {A = ℕ} 0 1 = cc in omega arith)
+  some_told (Some y) x m h = let same : y ≡ x = cc in subst Q same m
+
+  pub none_told : (o : Option A) (d : E) → MatchOption o P Q → Err d ≡ ok_or o e → P × (e ≡ d)
+  none_told None d m h = (m, cc)
+  none_told (Some y) d m h = absurd (let z : ◌≡◌ {A = ℕ} 0 1 = cc in omega arith)
 
 module _ (k : Key) (low high n : ℕ) (t : List ℕ) where
   pub no_line : cut newline t ≡ None → count_line k low high n (pieces newline t) ≡ malformed n

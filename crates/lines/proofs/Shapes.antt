@@ -1,24 +1,19 @@
--- A value of one, two, three or four fields, field by field.
-use Rattle.std.proofs.Common.{◌≡◌, ℕ, List, [], ◌∷◌, length, get_or, refl, arith}
+-- A value of two, three or four fields, field by field.
+use Rattle.std.proofs.Common.{◌≡◌, ℕ, List, [], ◌∷◌, refl}
 use Rattle.lexical.specs.declared.fault.Place.{Place}
-use Rattle.lexical.specs.declared.token.Token.{Token}
 use Rattle.lexical.specs.Bytes.{pieces, comma}
 use Rattle.lexical.specs.Fields.{behind}
+use Rattle.fields.specs.declared.field.Field.{Field}
 use Rattle.fields.specs.Splits.{Stands, AllStand}
 
-pub record OneField (value : List ℕ) (at : Place) (t : Token) : Type 0 where
-  pub x : List ℕ
-  pub split : pieces comma value ≡ x ∷ []
-  pub first : Stands at x t
-
-pub record TwoFields (value : List ℕ) (at : Place) (t u : Token) : Type 0 where
+pub record TwoFields (value : List ℕ) (at : Place) (t u : Field) : Type 0 where
   pub x : List ℕ
   pub y : List ℕ
   pub split : pieces comma value ≡ x ∷ y ∷ []
   pub first : Stands at x t
   pub second : Stands (behind at x) y u
 
-pub record ThreeFields (value : List ℕ) (at : Place) (t u v : Token) : Type 0 where
+pub record ThreeFields (value : List ℕ) (at : Place) (t u v : Field) : Type 0 where
   pub x : List ℕ
   pub y : List ℕ
   pub z : List ℕ
@@ -27,7 +22,7 @@ pub record ThreeFields (value : List ℕ) (at : Place) (t u v : Token) : Type 0 
   pub second : Stands (behind at x) y u
   pub third : Stands (behind (behind at x) y) z v
 
-pub record FourFields (value : List ℕ) (at : Place) (t u v w : Token) : Type 0 where
+pub record FourFields (value : List ℕ) (at : Place) (t u v w : Field) : Type 0 where
   pub x : List ℕ
   pub y : List ℕ
   pub z : List ℕ
@@ -39,34 +34,17 @@ pub record FourFields (value : List ℕ) (at : Place) (t u v w : Token) : Type 0
   pub fourth : Stands (behind (behind (behind at x) y) z) s w
 
 module _ (value : List ℕ) (at : Place) where
-  -- the fields of a list of tokens of that length, read with any default
-  pub one_of : (ts : List Token) (d : Token) → length ts ≡ 1 → AllStand at (pieces comma value) ts → OneField value at (get_or ts 0 d)
-  one_of [] d n h = absurd (omega (arith, n))
-  one_of (t ∷ []) d n h = go (pieces comma value) refl h
-    where
-      go : (ps : List (List ℕ)) → pieces comma value ≡ ps → AllStand at ps (t ∷ []) → OneField value at t
-      go [] e h = absurd h
-      go (x ∷ []) e h = record { x = x; split = e; first = h.0 }
-      go (x ∷ y ∷ ps) e h = absurd h.1
-  one_of (t ∷ u ∷ ts) d n h = absurd (omega (arith, n))
-
-  pub two_of : (ts : List Token) (d : Token) → length ts ≡ 2 → AllStand at (pieces comma value) ts → TwoFields value at (get_or ts 0 d) (get_or ts 1 d)
-  two_of [] d n h = absurd (omega (arith, n))
-  two_of (t ∷ []) d n h = absurd (omega (arith, n))
-  two_of (t ∷ u ∷ []) d n h = go (pieces comma value) refl h
+  pub two_of : (t u : Field) → AllStand at (pieces comma value) (t ∷ u ∷ []) → TwoFields value at t u
+  two_of t u h = go (pieces comma value) refl h
     where
       go : (ps : List (List ℕ)) → pieces comma value ≡ ps → AllStand at ps (t ∷ u ∷ []) → TwoFields value at t u
       go [] e h = absurd h
       go (x ∷ []) e h = absurd h.1
       go (x ∷ y ∷ []) e h = record { x = x; y = y; split = e; first = h.0; second = h.1.0 }
       go (x ∷ y ∷ z ∷ ps) e h = absurd h.1.1
-  two_of (t ∷ u ∷ v ∷ ts) d n h = absurd (omega (arith, n))
 
-  pub three_of : (ts : List Token) (d : Token) → length ts ≡ 3 → AllStand at (pieces comma value) ts → ThreeFields value at (get_or ts 0 d) (get_or ts 1 d) (get_or ts 2 d)
-  three_of [] d n h = absurd (omega (arith, n))
-  three_of (t ∷ []) d n h = absurd (omega (arith, n))
-  three_of (t ∷ u ∷ []) d n h = absurd (omega (arith, n))
-  three_of (t ∷ u ∷ v ∷ []) d n h = go (pieces comma value) refl h
+  pub three_of : (t u v : Field) → AllStand at (pieces comma value) (t ∷ u ∷ v ∷ []) → ThreeFields value at t u v
+  three_of t u v h = go (pieces comma value) refl h
     where
       go : (ps : List (List ℕ)) → pieces comma value ≡ ps → AllStand at ps (t ∷ u ∷ v ∷ []) → ThreeFields value at t u v
       go [] e h = absurd h
@@ -74,14 +52,9 @@ module _ (value : List ℕ) (at : Place) where
       go (x ∷ y ∷ []) e h = absurd h.1.1
       go (x ∷ y ∷ z ∷ []) e h = record { x = x; y = y; z = z; split = e; first = h.0; second = h.1.0; third = h.1.1.0 }
       go (x ∷ y ∷ z ∷ s ∷ ps) e h = absurd h.1.1.1
-  three_of (t ∷ u ∷ v ∷ w ∷ ts) d n h = absurd (omega (arith, n))
 
-  pub four_of : (ts : List Token) (d : Token) → length ts ≡ 4 → AllStand at (pieces comma value) ts → FourFields value at (get_or ts 0 d) (get_or ts 1 d) (get_or ts 2 d) (get_or ts 3 d)
-  four_of [] d n h = absurd (omega (arith, n))
-  four_of (t ∷ []) d n h = absurd (omega (arith, n))
-  four_of (t ∷ u ∷ []) d n h = absurd (omega (arith, n))
-  four_of (t ∷ u ∷ v ∷ []) d n h = absurd (omega (arith, n))
-  four_of (t ∷ u ∷ v ∷ w ∷ []) d n h = go (pieces comma value) refl h
+  pub four_of : (t u v w : Field) → AllStand at (pieces comma value) (t ∷ u ∷ v ∷ w ∷ []) → FourFields value at t u v w
+  four_of t u v w h = go (pieces comma value) refl h
     where
       go : (ps : List (List ℕ)) → pieces comma value ≡ ps → AllStand at ps (t ∷ u ∷ v ∷ w ∷ []) → FourFields value at t u v w
       go [] e h = absurd h
@@ -90,4 +63,3 @@ module _ (value : List ℕ) (at : Place) where
       go (x ∷ y ∷ z ∷ []) e h = absurd h.1.1.1
       go (x ∷ y ∷ z ∷ s ∷ []) e h = record { x = x; y = y; z = z; s = s; split = e; first = h.0; second = h.1.0; third = h.1.1.0; fourth = h.1.1.1.0 }
       go (x ∷ y ∷ z ∷ s ∷ q ∷ ps) e h = absurd h.1.1.1.1
-  four_of (t ∷ u ∷ v ∷ w ∷ q ∷ ts) d n h = absurd (omega (arith, n))

@@ -6,21 +6,17 @@ ghost use Rattle.lines.specs.Values.{part_of, there_of};
 
 use crate::present::Present;
 use fields::text::FieldText;
-use fields::value::{number, reference, relation};
 use lexical::fault::SequenceFault;
-use lexical::token::Token;
 use parts::part::Condition;
 
 // A clock against a constant.
 pub fn clock_line(value: FieldText, present: Present) -> Result<Condition, SequenceFault>
     ensures { result ≡ part_of (there_of present) clock_key clock_condition value.entry.at value.entry.bytes.now }
 {
-    let mut tokens = [Token::Dash(0); 3];
-    value.split_into(&mut tokens)?;
-    let [x, y, z] = tokens;
-    let clock = reference(x, value.at.line, present.scope.counts.clocks as usize)?;
-    let relation = relation(y, value.at.line)?;
-    let constant = number(z, value.at.line, 0, 1000000000)?;
+    let (x, y, z, _) = value.fields(3)?;
+    let clock = x.reference(present.scope.counts.clocks as usize)?;
+    let relation = y.relation()?;
+    let constant = z.number(0, 1000000000)?;
     Ok(Condition::Clock(clock, relation, constant))
 }
 
@@ -28,13 +24,11 @@ pub fn clock_line(value: FieldText, present: Present) -> Result<Condition, Seque
 pub fn difference_line(value: FieldText, present: Present) -> Result<Condition, SequenceFault>
     ensures { result ≡ part_of (there_of present) difference_key difference_condition value.entry.at value.entry.bytes.now }
 {
-    let mut tokens = [Token::Dash(0); 4];
-    value.split_into(&mut tokens)?;
-    let [x, y, z, w] = tokens;
-    let first = reference(x, value.at.line, present.scope.counts.clocks as usize)?;
-    let second = reference(y, value.at.line, present.scope.counts.clocks as usize)?;
-    let relation = relation(z, value.at.line)?;
-    let constant = number(w, value.at.line, -1000000000, 1000000000)?;
+    let (x, y, z, w) = value.fields(4)?;
+    let first = x.reference(present.scope.counts.clocks as usize)?;
+    let second = y.reference(present.scope.counts.clocks as usize)?;
+    let relation = z.relation()?;
+    let constant = w.number(-1000000000, 1000000000)?;
     Ok(Condition::Difference(first, second, relation, constant))
 }
 
@@ -42,11 +36,9 @@ pub fn difference_line(value: FieldText, present: Present) -> Result<Condition, 
 pub fn value_line(value: FieldText, present: Present) -> Result<Condition, SequenceFault>
     ensures { result ≡ part_of (there_of present) value_key variable_condition value.entry.at value.entry.bytes.now }
 {
-    let mut tokens = [Token::Dash(0); 3];
-    value.split_into(&mut tokens)?;
-    let [x, y, z] = tokens;
-    let variable = reference(x, value.at.line, present.scope.variables)?;
-    let relation = relation(y, value.at.line)?;
-    let constant = number(z, value.at.line, -32768, 32767)?;
+    let (x, y, z, _) = value.fields(3)?;
+    let variable = x.reference(present.scope.variables)?;
+    let relation = y.relation()?;
+    let constant = z.number(-32768, 32767)?;
     Ok(Condition::Variable(variable, relation, constant))
 }

@@ -5,6 +5,7 @@ ghost use Rattle.lexical.specs.Fields.{on};
 ghost use Rattle.lexical.specs.Tokens.{KeyAt, token_bytes};
 ghost use Rattle.grammar.specs.Reading.{key_and_value, value_place, counted as CountedOf, count_line, read_counts};
 
+use fields::split::one_field;
 use fields::text::FieldText;
 use lexical::bytes::cut_at;
 use lexical::fault::{LineFault, Place, SequenceFault};
@@ -34,7 +35,7 @@ pub fn key_and_value<'a>(
             };
             Ok((Token::Key(key, start.column), FieldText { bytes, at }))
         }
-        _ => Err(SequenceFault::Line(LineFault::Malformed(start))),
+        _ => Err(LineFault::Malformed(start).into()),
     }
 }
 
@@ -45,15 +46,14 @@ fn counted(key: Key, low: u32, high: u32, number: usize, line: &[u8]) -> Result<
 {
     let (name, value) = key_and_value(line, number)?;
     if key_named(name.bytes()) != Some(key) {
-        return Err(SequenceFault::Line(LineFault::KeyNotAllowed(Place {
+        let start = Place {
             line: number,
             column: 1,
-        })));
+        };
+        return Err(LineFault::KeyNotAllowed(start).into());
     }
-    let mut tokens = [Token::Dash(0); 1];
-    value.split_into(&mut tokens)?;
-    let [x] = tokens;
-    Ok(fields::value::number(x, number, low, high)?)
+    let x = one_field(value.bytes, value.at)?;
+    Ok(x.number(low, high)?)
 }
 
 // The number on the first line, which has to have this key, and the text behind that line.
@@ -67,12 +67,11 @@ pub fn count_line<'a>(
     ensures read { MatchResult result (λ p. count_line key low high number (pieces newline text.now) ≡ Ok (p.0, pieces newline p.1.now)) (λ e. count_line key low high number (pieces newline text.now) ≡ Err e) }
     ensures within { IfOk result (λ p. p.0 ≤ high) }
 {
-    let Some((line, rest)) = cut_at(text, b'\n') else {
-        return Err(SequenceFault::Line(LineFault::Malformed(Place {
-            line: number,
-            column: 1,
-        })));
+    let start = Place {
+        line: number,
+        column: 1,
     };
+    let (line, rest) = cut_at(text, b'\n').ok_or(LineFault::Malformed(start))?;
     Ok((counted(key, low, high, number, line)?, rest))
 }
 

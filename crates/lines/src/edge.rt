@@ -6,27 +6,19 @@ ghost use Rattle.grammar.specs.Reading.{edge_of};
 ghost use Rattle.lines.specs.Values.{part_of, there_of, reset_of, edge_count_of};
 
 use crate::present::Present;
+use fields::split::one_field;
 use fields::text::FieldText;
-use fields::value::{label, number, reference};
-use lexical::fault::SequenceFault;
-use lexical::token::Token;
+use lexical::fault::{Place, SequenceFault};
 use parts::part::{Edge, Reset};
 
 // From, to and label of an edge, which has no guard, zeroes no clock and assigns nothing yet.
 pub fn edge_line(value: FieldText, present: Present) -> Result<Edge, SequenceFault>
     ensures { result ≡ part_of (there_of present) edge_key edge_of value.entry.at value.entry.bytes.now }
 {
-    let mut tokens = [Token::Dash(0); 3];
-    value.split_into(&mut tokens)?;
-    let [x, y, z] = tokens;
-    let from = reference(x, value.at.line, present.locations)?;
-    let to = reference(y, value.at.line, present.locations)?;
-    let label = label(
-        z,
-        value.at.line,
-        present.scope.counts.triggers,
-        present.scope.counts.channels,
-    )?;
+    let (x, y, z, _) = value.fields(3)?;
+    let from = x.reference(present.locations)?;
+    let to = y.reference(present.locations)?;
+    let label = z.label(present.scope.counts.triggers, present.scope.counts.channels)?;
     Ok(Edge {
         from,
         to,
@@ -38,22 +30,18 @@ pub fn edge_line(value: FieldText, present: Present) -> Result<Edge, SequenceFau
 }
 
 // A clock that is zeroed.
-pub fn reset_line(value: FieldText, present: Present) -> Result<Reset, SequenceFault>
-    ensures { result ≡ part_of (there_of present) zero_key reset_of value.entry.at value.entry.bytes.now }
+pub fn reset_line(value: &[u8], at: Place, present: Present) -> Result<Reset, SequenceFault>
+    ensures { result ≡ part_of (there_of present) zero_key reset_of at value.now }
 {
-    let mut tokens = [Token::Dash(0); 1];
-    value.split_into(&mut tokens)?;
-    let [x] = tokens;
-    let clock = reference(x, value.at.line, present.scope.counts.clocks as usize)?;
+    let x = one_field(value, at)?;
+    let clock = x.reference(present.scope.counts.clocks as usize)?;
     Ok(Reset { clock })
 }
 
 // How many edges there are.
-pub fn edge_count_line(value: FieldText) -> Result<u32, SequenceFault>
-    ensures { result ≡ part_of nothing_there edges_key edge_count_of value.entry.at value.entry.bytes.now }
+pub fn edge_count_line(value: &[u8], at: Place) -> Result<u32, SequenceFault>
+    ensures { result ≡ part_of nothing_there edges_key edge_count_of at value.now }
 {
-    let mut tokens = [Token::Dash(0); 1];
-    value.split_into(&mut tokens)?;
-    let [x] = tokens;
-    Ok(number(x, value.at.line, 0, 128)?)
+    let x = one_field(value, at)?;
+    Ok(x.number(0, 128)?)
 }

@@ -6,20 +6,16 @@ ghost use Rattle.lines.specs.Values.{part_of, there_of};
 
 use crate::present::Present;
 use fields::text::FieldText;
-use fields::value::{number, optional_reference, reference, strictness};
 use lexical::fault::SequenceFault;
-use lexical::token::Token;
 use parts::part::{Invariant, Location};
 
 // The automaton of a location and its task or none; it has no invariant yet.
 pub fn location_line(value: FieldText, present: Present) -> Result<Location, SequenceFault>
     ensures { result ≡ part_of (there_of present) location_key location_of value.entry.at value.entry.bytes.now }
 {
-    let mut tokens = [Token::Dash(0); 2];
-    value.split_into(&mut tokens)?;
-    let [x, y] = tokens;
-    let automaton = reference(x, value.at.line, present.scope.counts.automata as usize)?;
-    let task = optional_reference(y, value.at.line, present.scope.tasks)?;
+    let (x, y, _, _) = value.fields(2)?;
+    let automaton = x.reference(present.scope.counts.automata as usize)?;
+    let task = y.optional_reference(present.scope.tasks)?;
     Ok(Location {
         automaton,
         task,
@@ -31,12 +27,10 @@ pub fn location_line(value: FieldText, present: Present) -> Result<Location, Seq
 pub fn invariant_line(value: FieldText, present: Present) -> Result<Invariant, SequenceFault>
     ensures { result ≡ part_of (there_of present) invariant_key invariant_of value.entry.at value.entry.bytes.now }
 {
-    let mut tokens = [Token::Dash(0); 3];
-    value.split_into(&mut tokens)?;
-    let [x, y, z] = tokens;
-    let clock = reference(x, value.at.line, present.scope.counts.clocks as usize)?;
-    let strict = strictness(y, value.at.line)?;
-    let bound = number(z, value.at.line, 0, 1000000000)?;
+    let (x, y, z, _) = value.fields(3)?;
+    let clock = x.reference(present.scope.counts.clocks as usize)?;
+    let strict = y.strictness()?;
+    let bound = z.number(0, 1000000000)?;
     Ok(Invariant {
         clock,
         strict,

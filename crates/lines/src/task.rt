@@ -6,21 +6,17 @@ ghost use Rattle.grammar.specs.Reading.{task_of};
 ghost use Rattle.lines.specs.Values.{part_of};
 
 use fields::text::FieldText;
-use fields::value::number;
 use lexical::fault::SequenceFault;
-use lexical::token::Token;
 use parts::part::Task;
 
 // C, D and P of a task, which assigns nothing yet.
 pub fn task_line(value: FieldText) -> Result<Task, SequenceFault>
     ensures { result ≡ part_of nothing_there task_key task_of value.entry.at value.entry.bytes.now }
 {
-    let mut tokens = [Token::Dash(0); 3];
-    value.split_into(&mut tokens)?;
-    let [x, y, z] = tokens;
-    let cost = number(x, value.at.line, 1, 1000000)?;
-    let deadline = number(y, value.at.line, cost, 1000000)?;
-    let priority = number(z, value.at.line, 0, 255)?;
+    let (x, y, z, _) = value.fields(3)?;
+    let cost = x.number(1, 1000000)?;
+    let deadline = y.number(cost, 1000000)?;
+    let priority = z.number(0, 255)?;
     Ok(Task {
         cost,
         deadline,

@@ -7,21 +7,17 @@ ghost use Rattle.lines.specs.Values.{part_of, there_of};
 
 use crate::present::Present;
 use fields::text::FieldText;
-use fields::value::{number, optional_reference, reference};
 use lexical::fault::SequenceFault;
-use lexical::token::Token;
 use parts::part::{Assignment, Variable};
 
 // Low, high and start of a variable.
 pub fn variable_line(value: FieldText) -> Result<Variable, SequenceFault>
     ensures { result ≡ part_of nothing_there var_key variable_of value.entry.at value.entry.bytes.now }
 {
-    let mut tokens = [Token::Dash(0); 3];
-    value.split_into(&mut tokens)?;
-    let [x, y, z] = tokens;
-    let low = number(x, value.at.line, -32768, 32767)?;
-    let high = number(y, value.at.line, low, 32767)?;
-    let start = number(z, value.at.line, low, high)?;
+    let (x, y, z, _) = value.fields(3)?;
+    let low = x.number(-32768, 32767)?;
+    let high = y.number(low, 32767)?;
+    let start = z.number(low, high)?;
     Ok(Variable { low, high, start })
 }
 
@@ -29,12 +25,10 @@ pub fn variable_line(value: FieldText) -> Result<Variable, SequenceFault>
 pub fn assignment_line(value: FieldText, present: Present) -> Result<Assignment, SequenceFault>
     ensures { result ≡ part_of (there_of present) set_key assignment_of value.entry.at value.entry.bytes.now }
 {
-    let mut tokens = [Token::Dash(0); 3];
-    value.split_into(&mut tokens)?;
-    let [x, y, z] = tokens;
-    let target = reference(x, value.at.line, present.scope.variables)?;
-    let source = optional_reference(y, value.at.line, present.scope.variables)?;
-    let constant = number(z, value.at.line, -32768, 32767)?;
+    let (x, y, z, _) = value.fields(3)?;
+    let target = x.reference(present.scope.variables)?;
+    let source = y.optional_reference(present.scope.variables)?;
+    let constant = z.number(-32768, 32767)?;
     Ok(Assignment {
         target,
         source,

@@ -59,7 +59,7 @@ fn add_assignment(draft: &mut Draft, assignment: Assignment) -> Result<(), Rule>
 fn take_edge_count(draft: &Draft, value: FieldText) -> Result<Taken, SequenceFault>
     ensures { TakesValue kind.Edges (plan_of draft.now) value.entry.at value.entry.bytes.now (plan_of draft.now) result }
 {
-    let count = edge_count_line(value)?;
+    let count = edge_count_line(value.bytes, value.at)?;
     if count as usize != draft.edges().len() {
         return Err(SequenceFault::WrongEdgeCount(value.at));
     }
@@ -89,7 +89,7 @@ pub(crate) fn take_value(
         Key::Clk => draft.add_condition(clock_line(value, present)?),
         Key::Dif => draft.add_condition(difference_line(value, present)?),
         Key::Val => draft.add_condition(value_line(value, present)?),
-        Key::Zero => draft.add_reset(reset_line(value, present)?),
+        Key::Zero => draft.add_reset(reset_line(value.bytes, value.at, present)?),
         Key::Edges => return take_edge_count(draft, value),
     };
     placed(added, value.at)

@@ -1,4 +1,4 @@
-use Rattle.std.proofs.Common.{Ok, Err, ap, ◌∙◌, rules}
+use Rattle.std.proofs.Common.{Ok, Err, ap, ◌∙◌}
 use Rattle.lexical.specs.declared.fault.LineFault.TheVariants.{Number, FieldCount}
 use Rattle.lexical.specs.declared.fault.SequenceFault.TheVariants.{Line}
 use Rattle.lexical.specs.Fields.{numeral}
@@ -6,7 +6,6 @@ use Rattle.lexical.specs.Keys.{key_named}
 use Rattle.lexical.specs.Tokens.{token_bytes}
 use Rattle.grammar.specs.Reading.{value_place}
 use Rattle.lines.proofs.Named.{other, named}
-use Rattle.lines.proofs.Shapes.{one_of}
 use Rattle.lines.proofs.Rows.{gone}
 use Rattle.lines.proofs.CountLine.{other_key, other_count, one_number}
 use Rattle.lines.proofs.counts.counted.Goals as goal
@@ -14,32 +13,32 @@ use Rattle.lines.proofs.counts.counted.Goals as goal
 pub returns-then-ne-clause-read : goal.returns-then-ne-clause-read
 returns-then-ne-clause-read c =
     let k = token_bytes c.in_ok-name.name in
-    other_key c.args.key c.args.low c.args.high c.args.number c.args.line.now k c.in_ok-name.value.bytes.now c.in_ok-name.ensures.parted
+    ap (λ e. Err e) c.into.ensures ∙ other_key c.args.key c.args.low c.args.high c.args.number c.args.line.now k c.in_ok-name.value.bytes.now c.in_ok-name.ensures.parted
     (other k c.args.key c.ne.result c.key_named.result (c.key_named.ensures ∙ ap key_named c.bytes.ensures) c.ne.ensures c.if-ne.true)
 
-pub returns-in_err-split_into-clause-read : goal.returns-in_err-split_into-clause-read
-returns-in_err-split_into-clause-read c =
+pub returns-in_err-x-clause-read : goal.returns-in_err-x-clause-read
+returns-in_err-x-clause-read c =
     let k = token_bytes c.in_ok-name.name in
     let s = named k c.args.key c.ne.result c.key_named.result (c.key_named.ensures ∙ ap key_named c.bytes.ensures) c.ne.ensures c.if-ne.false in
-    gone c.from_residual-in_err-split_into.result _ c.from_residual-in_err-split_into.ensures.1
-    (ap (λ e. Err (Line e)) (c.in_err-split_into.ensures.0 ∙ ap FieldCount c.in_ok-name.ensures.placed)
-    ∙ other_count c.args.key c.args.low c.args.high c.args.number c.args.line.now k c.in_ok-name.value.bytes.now c.in_ok-name.ensures.parted s c.in_err-split_into.ensures.1)
+    gone c.from_residual-in_err-x.result _ c.from_residual-in_err-x.ensures.1
+    (ap (λ e. Err (Line e)) (c.in_err-x.ensures.0 ∙ ap FieldCount c.in_ok-name.ensures.placed)
+    ∙ other_count c.args.key c.args.low c.args.high c.args.number c.args.line.now k c.in_ok-name.value.bytes.now c.in_ok-name.ensures.parted s c.in_err-x.ensures.1)
 
 pub returns-in_err-number-clause-read : goal.returns-in_err-number-clause-read
 returns-in_err-number-clause-read c =
     let k = token_bytes c.in_ok-name.name in
     let v = c.in_ok-name.value.bytes.now in
     let s = named k c.args.key c.ne.result c.key_named.result (c.key_named.ensures ∙ ap key_named c.bytes.ensures) c.ne.ensures c.if-ne.false in
-    let f = one_of v (value_place c.args.number k) c.split_into.new.tokens _ (search rules) (rw c.in_ok-name.ensures.placed at c.in_ok-split_into.ensures) in
+    let f = rw c.in_ok-name.ensures.placed at c.in_ok-x.ensures in
     gone c.from_residual-in_err-number.result _ c.from_residual-in_err-number.ensures.1
     (one_number c.args.key c.args.low c.args.high c.args.number c.args.line.now k v c.in_ok-name.ensures.parted s f (Err (Line (Number c.in_err-number.field-0.0)))
-    (ap numeral (c.in_err-number.ensures.read f.x (value_place c.args.number k).column f.first)))
+    (ap numeral (c.in_err-number.ensures.read f.x (value_place c.args.number k).line (value_place c.args.number k).column f.first)))
 
 pub returns-clause-read : goal.returns-clause-read
 returns-clause-read c =
     let k = token_bytes c.in_ok-name.name in
     let v = c.in_ok-name.value.bytes.now in
     let s = named k c.args.key c.ne.result c.key_named.result (c.key_named.ensures ∙ ap key_named c.bytes.ensures) c.ne.ensures c.if-ne.false in
-    let f = one_of v (value_place c.args.number k) c.split_into.new.tokens _ (search rules) (rw c.in_ok-name.ensures.placed at c.in_ok-split_into.ensures) in
+    let f = rw c.in_ok-name.ensures.placed at c.in_ok-x.ensures in
     one_number c.args.key c.args.low c.args.high c.args.number c.args.line.now k v c.in_ok-name.ensures.parted s f (Ok c.in_ok-number.field-0)
-    (ap numeral (c.in_ok-number.ensures.read f.x (value_place c.args.number k).column f.first))
+    (ap numeral (c.in_ok-number.ensures.read f.x (value_place c.args.number k).line (value_place c.args.number k).column f.first))

@@ -16,7 +16,7 @@ returns-in-None c =
     record {
       x = c.args.self.bytes.now;
       split = pieces_none comma c.args.self.bytes.now c.in-None.ensures;
-      first = c.token_of.ensures;
+      first = c.field_at.ensures;
       next = tt;
     }
 
@@ -25,6 +25,6 @@ returns-in-Some c =
     record {
       x = c.in-Some.field.now;
       split = pieces_cut comma c.args.self.bytes.now (c.in-Some.field.now, c.in-Some.bytes.now) c.in-Some.ensures;
-      first = c.token_of-in-Some.ensures;
+      first = c.field_at-in-Some.ensures;
       next = refl;
     }
