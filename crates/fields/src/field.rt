@@ -106,14 +106,14 @@ impl<'a> Field<'a> {
     pub fn relation(self) -> Result<Relation, SequenceFault>
         ensures { (field : List ℕ) (line column : ℕ) → IsField field line column self.entry → result ≡ relation_field.parse (place line column) field }
     {
-        let at = self.place();
+        let unknown = LineFault::UnknownWord(self.place()).into();
         match self.token {
             Token::Word(b"lt", _) => Ok(Relation::Lt),
             Token::Word(b"le", _) => Ok(Relation::Le),
             Token::Word(b"eq", _) => Ok(Relation::Eq),
             Token::Word(b"ge", _) => Ok(Relation::Ge),
             Token::Word(b"gt", _) => Ok(Relation::Gt),
-            _ => Err(SequenceFault::Line(LineFault::UnknownWord(at))),
+            _ => Err(unknown),
         }
     }
 
@@ -122,11 +122,11 @@ impl<'a> Field<'a> {
     pub fn strictness(self) -> Result<bool, SequenceFault>
         ensures { (field : List ℕ) (line column : ℕ) → IsField field line column self.entry → result ≡ strictness_field.parse (place line column) field }
     {
-        let at = self.place();
+        let unknown = LineFault::UnknownWord(self.place()).into();
         match self.token {
             Token::Word(b"lt", _) => Ok(true),
             Token::Word(b"le", _) => Ok(false),
-            _ => Err(SequenceFault::Line(LineFault::UnknownWord(at))),
+            _ => Err(unknown),
         }
     }
 

@@ -7,7 +7,6 @@ use crate::field::{Field, field_at};
 use crate::text::FieldText;
 use lexical::bytes::cut_at;
 use lexical::fault::{LineFault, Place};
-use lexical::token::Token;
 
 impl<'a> FieldText<'a> {
     // The first field, and the text behind its comma or none.
@@ -35,10 +34,7 @@ impl<'a> FieldText<'a> {
         requires { many ≤ 4 }
         ensures { MatchResult result (λ p. AllStand self.entry.at (pieces comma self.entry.bytes.now) (take many (p.0 ∷ p.1 ∷ p.2 ∷ p.3 ∷ []))) (λ e. Miscounts many self.entry.bytes.now self.entry.at e) }
     {
-        let blank = Field {
-            token: Token::Dash(0),
-            line: 0,
-        };
+        let blank = field_at(b"", self.at);
         let mut fields = [blank; 4];
         let mut left = Some(self);
         // by an index: a `&mut` to a field, which borrows, has no proof yet

@@ -22,31 +22,31 @@ pub returns-in_err-reference-in-116 : goal.returns-in_err-reference-in-116
 returns-in_err-reference-in-116 c =
     let p = err_from_is_err_and c.from_residual.result c.from_residual.ensures.1 in
     rw (p.1, p.2) (by_letter c.args.triggers c.args.channels c.args.at c.args.word.now 116 (Err c.in_err-reference-in-116.field-0.0) c.in-116.is (omega arith)
-    (ap (labelled Trigger) (c.in_err-reference-in-116.ensures (behind c.args.word.now) c.args.at.line c.args.at.column c.field_at-number.ensures)))
+    (ap (labelled Trigger) (c.in_err-reference-in-116.ensures _ _ _ c.field_at-number.ensures)))
 
 pub returns-in_ok-reference-in-116 : goal.returns-in_ok-reference-in-116
 returns-in_ok-reference-in-116 c =
     by_letter c.args.triggers c.args.channels c.args.at c.args.word.now 116 (Ok (Trigger c.in_ok-reference-in-116.field-0)) c.in-116.is (omega arith)
-    (ap (labelled Trigger) (c.in_ok-reference-in-116.ensures (behind c.args.word.now) c.args.at.line c.args.at.column c.field_at-number.ensures))
+    (ap (labelled Trigger) (c.in_ok-reference-in-116.ensures _ _ _ c.field_at-number.ensures))
 
 pub returns-in_err-reference-in-115 : goal.returns-in_err-reference-in-115
 returns-in_err-reference-in-115 c =
     let p = err_from_is_err_and c.from_residual-in_err-reference-in-115.result c.from_residual-in_err-reference-in-115.ensures.1 in
     rw (p.1, p.2) (by_letter c.args.triggers c.args.channels c.args.at c.args.word.now 115 (Err c.in_err-reference-in-115.field-0.0) c.in-115.is (omega arith)
-    (ap (labelled Send) (c.in_err-reference-in-115.ensures (behind c.args.word.now) c.args.at.line c.args.at.column c.field_at-number.ensures)))
+    (ap (labelled Send) (c.in_err-reference-in-115.ensures _ _ _ c.field_at-number.ensures)))
 
 pub returns-in_ok-reference-in-115 : goal.returns-in_ok-reference-in-115
 returns-in_ok-reference-in-115 c =
     by_letter c.args.triggers c.args.channels c.args.at c.args.word.now 115 (Ok (Send c.in_ok-reference-in-115.field-0)) c.in-115.is (omega arith)
-    (ap (labelled Send) (c.in_ok-reference-in-115.ensures (behind c.args.word.now) c.args.at.line c.args.at.column c.field_at-number.ensures))
+    (ap (labelled Send) (c.in_ok-reference-in-115.ensures _ _ _ c.field_at-number.ensures))
 
 pub returns-in_err-reference-in-114 : goal.returns-in_err-reference-in-114
 returns-in_err-reference-in-114 c =
     let p = err_from_is_err_and c.from_residual-in_err-reference-in-114.result c.from_residual-in_err-reference-in-114.ensures.1 in
     rw (p.1, p.2) (by_letter c.args.triggers c.args.channels c.args.at c.args.word.now 114 (Err c.in_err-reference-in-114.field-0.0) c.in-114.is (omega arith)
-    (ap (labelled Receive) (c.in_err-reference-in-114.ensures (behind c.args.word.now) c.args.at.line c.args.at.column c.field_at-number.ensures)))
+    (ap (labelled Receive) (c.in_err-reference-in-114.ensures _ _ _ c.field_at-number.ensures)))
 
 pub returns-in_ok-reference-in-114 : goal.returns-in_ok-reference-in-114
 returns-in_ok-reference-in-114 c =
     by_letter c.args.triggers c.args.channels c.args.at c.args.word.now 114 (Ok (Receive c.in_ok-reference-in-114.field-0)) c.in-114.is (omega arith)
-    (ap (labelled Receive) (c.in_ok-reference-in-114.ensures (behind c.args.word.now) c.args.at.line c.args.at.column c.field_at-number.ensures))
+    (ap (labelled Receive) (c.in_ok-reference-in-114.ensures _ _ _ c.field_at-number.ensures))

@@ -4,7 +4,6 @@ use Rattle.lexical.specs.declared.fault.SequenceFault.TheVariants.{Line}
 use Rattle.lexical.specs.Fields.{numeral}
 use Rattle.lexical.specs.Keys.{key_named}
 use Rattle.lexical.specs.Tokens.{token_bytes}
-use Rattle.grammar.specs.Reading.{value_place}
 use Rattle.lines.proofs.Named.{other, named}
 use Rattle.lines.proofs.Rows.{gone}
 use Rattle.lines.proofs.CountLine.{other_key, other_count, one_number}
@@ -32,7 +31,7 @@ returns-in_err-number-clause-read c =
     let f = rw c.in_ok-name.ensures.placed at c.in_ok-x.ensures in
     gone c.from_residual-in_err-number.result _ c.from_residual-in_err-number.ensures.1
     (one_number c.args.key c.args.low c.args.high c.args.number c.args.line.now k v c.in_ok-name.ensures.parted s f (Err (Line (Number c.in_err-number.field-0.0)))
-    (ap numeral (c.in_err-number.ensures.read f.x (value_place c.args.number k).line (value_place c.args.number k).column f.first)))
+    (ap numeral (c.in_err-number.ensures.read _ _ _ f.first)))
 
 pub returns-clause-read : goal.returns-clause-read
 returns-clause-read c =
@@ -41,4 +40,4 @@ returns-clause-read c =
     let s = named k c.args.key c.ne.result c.key_named.result (c.key_named.ensures ∙ ap key_named c.bytes.ensures) c.ne.ensures c.if-ne.false in
     let f = rw c.in_ok-name.ensures.placed at c.in_ok-x.ensures in
     one_number c.args.key c.args.low c.args.high c.args.number c.args.line.now k v c.in_ok-name.ensures.parted s f (Ok c.in_ok-number.field-0)
-    (ap numeral (c.in_ok-number.ensures.read f.x (value_place c.args.number k).line (value_place c.args.number k).column f.first))
+    (ap numeral (c.in_ok-number.ensures.read _ _ _ f.first))

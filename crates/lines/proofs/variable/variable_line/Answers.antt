@@ -31,7 +31,7 @@ pub returns-in_err-low : goal.returns-in_err-low
 returns-in_err-low c =
     let f = three_of c.args.value.bytes.now c.args.value.at _ _ _ c.in_ok-x.ensures in
     gone c.from_residual-in_err-low.result _ c.from_residual-in_err-low.ensures.1
-    (three_first (integer lowest highest) (λ low. integer low highest) (λ low high. integer low high) variable_of c.args.value.at f (Err (Line (Number c.in_err-low.field-0.0))) (ap numeral (c.in_err-low.ensures.read f.x c.args.value.at.line c.args.value.at.column f.first)))
+    (three_first (integer lowest highest) (λ low. integer low highest) (λ low high. integer low high) variable_of c.args.value.at f (Err (Line (Number c.in_err-low.field-0.0))) (ap numeral (c.in_err-low.ensures.read _ _ _ f.first)))
 
 pub returns-in_err-high : goal.returns-in_err-high
 returns-in_err-high c =
@@ -40,8 +40,8 @@ returns-in_err-high c =
     let fl : SFits w16 low = search rules in
     gone c.from_residual-in_err-high.result _ c.from_residual-in_err-high.ensures.1
     (three_second (integer lowest highest) (λ low. integer low highest) (λ low high. integer low high) variable_of c.args.value.at f low (Err (Line (Number c.in_err-high.field-0.0)))
-    (ap numeral (c.in_ok-low.ensures.read f.x c.args.value.at.line c.args.value.at.column f.first))
-    (ap numeral (c.in_err-high.ensures.read f.y c.args.value.at.line (behind c.args.value.at f.x).column f.second ∙ lower low fl (behind c.args.value.at f.x) f.y)))
+    (ap numeral (c.in_ok-low.ensures.read _ _ _ f.first))
+    (ap numeral (c.in_err-high.ensures.read _ _ _ f.second ∙ lower low fl (behind c.args.value.at f.x) f.y)))
 
 pub returns-in_err-start : goal.returns-in_err-start
 returns-in_err-start c =
@@ -52,9 +52,9 @@ returns-in_err-start c =
     let fh : SFits w16 high = search rules in
     gone c.from_residual-in_err-start.result _ c.from_residual-in_err-start.ensures.1
     (three_third (integer lowest highest) (λ low. integer low highest) (λ low high. integer low high) variable_of c.args.value.at f low high (Err (Line (Number c.in_err-start.field-0.0)))
-    (ap numeral (c.in_ok-low.ensures.read f.x c.args.value.at.line c.args.value.at.column f.first))
-    (ap numeral (c.in_ok-high.ensures.read f.y c.args.value.at.line (behind c.args.value.at f.x).column f.second ∙ lower low fl (behind c.args.value.at f.x) f.y))
-    (ap numeral (c.in_err-start.ensures.read f.z c.args.value.at.line (behind (behind c.args.value.at f.x) f.y).column f.third ∙ both low high fl fh (behind (behind c.args.value.at f.x) f.y) f.z)))
+    (ap numeral (c.in_ok-low.ensures.read _ _ _ f.first))
+    (ap numeral (c.in_ok-high.ensures.read _ _ _ f.second ∙ lower low fl (behind c.args.value.at f.x) f.y))
+    (ap numeral (c.in_err-start.ensures.read _ _ _ f.third ∙ both low high fl fh (behind (behind c.args.value.at f.x) f.y) f.z)))
 
 pub returns : goal.returns
 returns c =
@@ -67,6 +67,6 @@ returns c =
     let fs : SFits w16 start = search rules in
     all_three low high start fl fh fs ∙
     three_third (integer lowest highest) (λ low. integer low highest) (λ low high. integer low high) variable_of c.args.value.at f low high (Ok start)
-    (ap numeral (c.in_ok-low.ensures.read f.x c.args.value.at.line c.args.value.at.column f.first))
-    (ap numeral (c.in_ok-high.ensures.read f.y c.args.value.at.line (behind c.args.value.at f.x).column f.second ∙ lower low fl (behind c.args.value.at f.x) f.y))
-    (ap numeral (c.in_ok-start.ensures.read f.z c.args.value.at.line (behind (behind c.args.value.at f.x) f.y).column f.third ∙ both low high fl fh (behind (behind c.args.value.at f.x) f.y) f.z))
+    (ap numeral (c.in_ok-low.ensures.read _ _ _ f.first))
+    (ap numeral (c.in_ok-high.ensures.read _ _ _ f.second ∙ lower low fl (behind c.args.value.at f.x) f.y))
+    (ap numeral (c.in_ok-start.ensures.read _ _ _ f.third ∙ both low high fl fh (behind (behind c.args.value.at f.x) f.y) f.z))
