@@ -12,7 +12,8 @@ use lexical::fault::{LineFault, NumberFault, Place, SequenceFault};
 use lexical::token::{Token, token_of};
 use parts::part::{Label, Relation};
 
-// A token and its line.
+// A token and its line. Anyone may make one, so what it says is promised of the field that it is (`IsField`), and asked of
+// nobody. Bounds stand singly, with no range type: each is asked of by itself.
 #[derive(Clone, Copy)]
 pub struct Field<'a> {
     pub token: Token<'a>,

@@ -14,6 +14,7 @@ fn digits(text: &[u8]) -> Option<u64>
     ensures { MatchOption result (all_ascii_digits text.now ≡ false) (λ n. (all_ascii_digits text.now ≡ true) × Capped text.now n) }
 {
     let mut n = 0u64;
+    // a loop: the step of a fold would be as long, with the early end inside it
     for b in text {
         let d = *b;
         if d < b'0' || d > b'9' {
@@ -40,11 +41,7 @@ fn magnitude(text: &[u8]) -> Option<u64>
 fn below_zero(text: &[u8]) -> Option<i64>
     ensures { MatchOption result ((spelt text.now && not (value 0 text.now == 0)) ≡ false) (λ z. ((spelt text.now && not (value 0 text.now == 0)) ≡ true) × Near z (negsuc (pred (value 0 text.now)))) }
 {
-    let n = magnitude(text)?;
-    if n == 0 {
-        return None;
-    }
-    Some(-(n as i64))
+    magnitude(text).filter(|n| *n != 0).map(|n| -(n as i64))
 }
 
 // What a well spelt number says, or a number beyond 32 bits on the same side of 0; none where it is not well spelt.

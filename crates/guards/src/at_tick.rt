@@ -1,6 +1,7 @@
 // Whether conditions, guards and invariants hold at a tick.
 //
-// What needs the clocks alone takes `zeroed`, and what needs the variables alone `values`: the fields of a valuation.
+// What needs the clocks alone takes `zeroed`, and what needs the variables alone `values`: the fields of a valuation. The
+// tick stands apart, since one valuation is asked of at many ticks.
 ghost use Rattle.std.specs.Prelude.{◌≡◌, pos, slice_index, slice_index_or};
 ghost use Rattle.runs.specs.Guards.{compares, clock as clock_at, holds, guard_holds, keeps, all_keep, may_stay_in};
 
@@ -19,7 +20,8 @@ pub fn compare(relation: Relation, x: i64, y: i64) -> bool
     }
 }
 
-// The tick at which a clock was zeroed last.
+// The tick at which a clock was zeroed last. A library call, like others of its kind: the name says what counts as what
+// behind the end.
 pub fn last_zeroing(zeroed: &[u32], clock: u8) -> u32
     ensures { result ≡ slice_index zeroed.now clock }
 {

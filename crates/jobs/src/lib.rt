@@ -20,7 +20,7 @@ use std::error::Error;
 use std::fmt;
 
 impl Job {
-    // A job as its task's release makes it.
+    // A job as its task's release makes it. Jobs know no task: a type for C, D and P would only be unpacked here.
     pub fn released(
         number: u32,
         task: u8,
@@ -159,6 +159,7 @@ impl<O: Order> Order for Hold<O> {
     ghost orders = { Prim.search rules };
 }
 
+// By a match, here and below: which order it is is known only when the program runs, and no `dyn` value is handed out.
 impl Precedence<JobKey> for OrderName {
     ghost before = { named_before };
 

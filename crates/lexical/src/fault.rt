@@ -46,7 +46,8 @@ pub enum SequenceFault {
     WrongEdgeCount(Place),
 }
 
-// A fault as numbers: its cause and layer, and its line and column, 0 and 0 where no place is to blame.
+// A fault as numbers, as each refusal has them in print and for a host: its cause and layer, and its line and column, 0 and
+// 0 where no place is to blame.
 #[derive(Clone, Copy, PartialEq, Eq, Debug)]
 pub struct Report {
     pub cause: u8,

@@ -22,7 +22,7 @@ pub enum Key {
     Edges,
 }
 
-// The key that bytes are, or none.
+// The key that bytes are, or none: an `Option` and no `TryFrom`, since who asks makes the fault, with its place.
 #[tactic(auto, using(crate::proofs::Named::none_named))]
 pub fn key_named(key: &[u8]) -> Option<Key>
     ensures { result ≡ key_named key.now }

@@ -1,8 +1,17 @@
 // A fault of any layer as numbers; a lower layer's fault is reported as it is.
 ghost use Rattle.std.specs.Prelude.{◌≡◌};
-ghost use Rattle.lexical.specs.Faults.{number_report, line_report, sequence_report, reported as report_of};
+ghost use Rattle.lexical.specs.Faults.{place, number_report, line_report, sequence_report, reported as report_of};
 
 use crate::fault::{LineFault, NumberFault, Place, Report, SequenceFault};
+
+impl Place {
+    // Where a line begins.
+    pub fn line_start(line: usize) -> Place
+        ensures { result ≡ place line 1 }
+    {
+        Place { line, column: 1 }
+    }
+}
 
 // A cause of a layer at a place.
 fn reported(cause: u8, layer: u8, at: Place) -> Report
@@ -16,7 +25,7 @@ fn reported(cause: u8, layer: u8, at: Place) -> Report
     }
 }
 
-// Methods, and no `From`: each impl would need its definition a second time, as a ghost member.
+// Methods, and no `From` beside them: that would say each definition a second time.
 impl NumberFault {
     pub fn report(self) -> Report
         ensures { result ≡ number_report self }

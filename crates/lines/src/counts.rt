@@ -23,19 +23,25 @@ pub fn key_and_value<'a>(
     ensures keyed { IfOk result (λ p. KeyAt 1 p.0) }
     ensures short { IfOk result (λ p. length (token_bytes p.0) ≤ 8) }
 {
-    let start = Place {
-        line: number,
-        column: 1,
-    };
     match cut_at(line, b'=') {
         Some((key, bytes)) if 1 <= key.len() && key.len() <= 8 => {
-            let at = Place {
-                line: number,
-                column: start.column + key.len() + 1,
-            };
-            Ok((Token::Key(key, start.column), FieldText { bytes, at }))
+            let key = Token::Key(key, 1);
+            let at = value_place(key, number);
+            Ok((key, FieldText { bytes, at }))
         }
-        _ => Err(LineFault::Malformed(start).into()),
+        _ => Err(LineFault::Malformed(Place::line_start(number)).into()),
+    }
+}
+
+// Where the value behind a key stands, in a line with this number.
+pub fn value_place(key: Token, number: usize) -> Place
+    requires key_at { KeyAt 1 key }
+    requires key_len_bound { length (token_bytes key) ≤ 40960 }
+    ensures { result ≡ value_place number (token_bytes key.entry) }
+{
+    Place {
+        line: number,
+        column: key.column() + key.bytes().len() + 1,
     }
 }
 
@@ -46,11 +52,7 @@ fn counted(key: Key, low: u32, high: u32, number: usize, line: &[u8]) -> Result<
 {
     let (name, value) = key_and_value(line, number)?;
     if key_named(name.bytes()) != Some(key) {
-        let start = Place {
-            line: number,
-            column: 1,
-        };
-        return Err(LineFault::KeyNotAllowed(start).into());
+        return Err(LineFault::KeyNotAllowed(Place::line_start(number)).into());
     }
     let x = one_field(value.bytes, value.at)?;
     Ok(x.number(low, high)?)
@@ -67,10 +69,7 @@ pub fn count_line<'a>(
     ensures read { MatchResult result (λ p. count_line key low high number (pieces newline text.now) ≡ Ok (p.0, pieces newline p.1.now)) (λ e. count_line key low high number (pieces newline text.now) ≡ Err e) }
     ensures within { IfOk result (λ p. p.0 ≤ high) }
 {
-    let start = Place {
-        line: number,
-        column: 1,
-    };
+    let start = Place::line_start(number);
     let (line, rest) = cut_at(text, b'\n').ok_or(LineFault::Malformed(start))?;
     Ok((counted(key, low, high, number, line)?, rest))
 }

@@ -1,4 +1,5 @@
-// How many there are of what a line may refer to.
+// How many there are of what a line may refer to. It stands beside the value, which is new with each line; this is the
+// draft's.
 use parts::part::Scope;
 
 #[derive(Clone, Copy)]

@@ -5,7 +5,7 @@ use runs::event::Phase;
 use sequence::whole::Sequence;
 
 // The inner state of an engine, but for its order and its source.
-// Of each row the first places are in use: one for each automaton, clock, variable and trigger of the sequence.
+// The rows are arrays, since nothing allocates. Of each the first places are in use: one for each automaton, clock, variable and trigger of the sequence.
 #[derive(Drop)]
 pub struct Core {
     pub sequence: Sequence,

@@ -22,8 +22,8 @@ use parts::set_item;
 use runs::event::{Phase, Worker};
 use search::view::View;
 
-// The numbers of edges: all are candidates. Written out: no constant can be computed here, and a list made at each call
-// would cost its 128 writes.
+// The numbers of edges: all are candidates. Written out, since the search takes a slice of numbers and a constant's value is
+// not computed; a macro that writes it would be no plainer.
 const EDGE_NUMBERS: [u8; 128] = [
     0, 1, 2, 3, 4, 5, 6, 7, 8, 9, 10, 11, 12, 13, 14, 15, 16, 17, 18, 19, 20, 21, 22, 23, 24, 25,
     26, 27, 28, 29, 30, 31, 32, 33, 34, 35, 36, 37, 38, 39, 40, 41, 42, 43, 44, 45, 46, 47, 48, 49,
@@ -34,7 +34,7 @@ const EDGE_NUMBERS: [u8; 128] = [
 ];
 
 impl Core {
-    // The current location of each automaton.
+    // The current location of each automaton. The four rows in use are a slice each: element types and counts differ.
     pub fn places(&self) -> &[u8]
         ensures { result.now ≡ (model [] self.entry.now).places }
     {

@@ -8,7 +8,7 @@ use search::is_present;
 use sources::Source;
 use sources::trigger::Trigger;
 
-// Takes the first trigger from a source if it is of this tick.
+// Takes the first trigger from a source if it is of this tick. What is due asks the same filter of a trigger at hand.
 pub fn take_due<S: Source>(source: &mut S, tick: u32) -> Option<Trigger>
     ensures { TakesDue tick (S.Source.list source.old) (S.Source.list source.new) result }
 {

@@ -22,10 +22,11 @@ impl Engine {
     fn may_be_at(&self, automaton: u8, tick: u32) -> bool
         ensures { result ≡ may_stay (state self.now) tick automaton }
     {
-        let Some(place) = item(self.core.places(), automaton as usize) else {
-            return true;
-        };
-        may_stay(self.core.sequence.location(place), self.core.zeroed(), tick)
+        item(self.core.places(), automaton as usize).is_none_or(|place| may_stay(
+            self.core.sequence.location(place),
+            self.core.zeroed(),
+            tick,
+        ))
     }
 
     // The lowest automaton whose location's invariants fail at the next tick, or none.

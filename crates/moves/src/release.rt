@@ -30,6 +30,7 @@ impl Engine {
     pub fn release<O: Order>(&mut self, order: &O, location: u8)
         ensures { length (state self.old).waiting + releases_at (state self.old).plan location ≤ 32 → state self.new ≡ location_released (O.Precedence.before order.now) location (state self.old) }
     {
+        // number and task are both needed: a chain would make a pair and take it apart
         let Some(number) = self.task_number(location) else {
             return;
         };
@@ -44,6 +45,7 @@ impl Engine {
             task.priority,
             self.core.now,
         );
+        // `if let`, since what a taken job says of the queue is needed below
         if let Ok(()) = self.core.queue.release(order, job) {
             self.core.next += 1;
         }

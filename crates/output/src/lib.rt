@@ -70,7 +70,7 @@ impl Sink for Tally {
     }
 }
 
-// Writes to the front of a caller's buffer.
+// Writes to the front of a caller's buffer, the length beside it: nothing is allocated.
 #[derive(Drop)]
 pub struct Out<'a> {
     buf: &'a mut [u8],
@@ -132,7 +132,7 @@ fn put_number<S: Sink, I: Integer>(out: &mut S, n: I)
     out.put(digits.format(n).as_bytes());
 }
 
-// A number's decimal digits.
+// A number's decimal digits. This and the next are public names, each by the definition that the formats use.
 pub fn put_natural<S: Sink>(out: &mut S, n: u32)
     ensures { Gives S.Sink.holds S.Sink.lender out.old (decimal n) out.new }
 {

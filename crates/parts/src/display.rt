@@ -1,6 +1,6 @@
 // How a relation and a rule are printed.
 ghost use Rattle.std.specs.Prelude.{Some};
-ghost use Rattle.parts.specs.Shown.{relation_sign};
+ghost use Rattle.parts.specs.Shown.{relation_sign, rule_text};
 
 use crate::part::{Relation, Rule};
 use std::error::Error;
@@ -21,8 +21,9 @@ impl fmt::Display for Relation {
     }
 }
 
-// What a rule says, for people to read.
 impl fmt::Display for Rule {
+    ghost output = { λ r. Some (rule_text r) };
+
     fn fmt<W: fmt::Write>(&self, f: &mut fmt::Formatter<W>) -> fmt::Result {
         let text = match *self {
             Rule::BadCounts =>

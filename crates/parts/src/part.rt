@@ -1,4 +1,5 @@
-// The parts of a sequence. Each kind is numbered from 0.
+// The parts of a sequence. Each kind is numbered from 0, and named by its number as in the text and the log.
+// Groups are arrays of options: fixed memory, and callers write them as literals.
 
 // How a value is compared with a constant: <, <=, =, >= or >.
 #[derive(Clone, Copy)]
@@ -36,6 +37,7 @@ pub struct Reset {
 #[derive(Clone, Copy)]
 pub struct Invariant {
     pub clock: u8,
+    // a flag: only < and <= may stand here
     pub strict: bool,
     pub bound: u32,
 }

@@ -21,7 +21,8 @@ pub trait Precedence<K> {
     ghost lawful: { (o : Self) → WeakOrder (before o) };
 }
 
-// A kind of record that has an order of its own, the same in every policy.
+// A kind of record that has an order of its own, the same in every policy. Not `Ord`: only which goes ahead is asked, and two
+// records may be of equal rank.
 pub trait Ranked {
     // whether the first record goes before the second
     ghost ahead: { Self → Self → Bool };

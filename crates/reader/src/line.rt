@@ -19,10 +19,7 @@ pub(crate) fn take_line(
     ensures { Takes (take_line (plan_of draft.old) number line.now) (plan_of draft.old) (plan_of draft.new) result }
 {
     let (key, value) = key_and_value(line, number)?;
-    let at = Place {
-        line: number,
-        column: 1,
-    };
+    let at = Place::line_start(number);
     let kind = key_named(key.bytes()).ok_or(LineFault::KeyNotAllowed(at))?;
     if !is_allowed(kind, stage(draft), draft.is_complete()) {
         return Err(LineFault::KeyNotAllowed(at).into());

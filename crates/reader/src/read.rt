@@ -27,9 +27,5 @@ pub(crate) fn read_lines<'a>(draft: &mut Draft, text: &'a [u8]) -> Result<&'a [u
             }
         }
     }
-    let at = Place {
-        line: number,
-        column: 1,
-    };
-    Err(LineFault::Malformed(at).into())
+    Err(LineFault::Malformed(Place::line_start(number)).into())
 }

@@ -18,7 +18,7 @@ use lines::variable::{assignment_line, variable_line};
 use parts::part::{Assignment, Rule};
 use sequence::draft::Draft;
 
-// A line was taken: more lines follow, or it was the last.
+// A line was taken: more lines follow, or it was the last. Not `ControlFlow`: as short, and the names say what follows.
 #[derive(Clone, Copy)]
 pub(crate) enum Taken {
     More,
@@ -75,6 +75,7 @@ pub(crate) fn take_value(
     ensures { TakesValue key (plan_of draft.old) value.entry.at value.entry.bytes.now (plan_of draft.new) result }
 {
     let present = present(draft);
+    // a match, and no table of functions: each key reads and adds a part of its own type
     let added = match key {
         // never allowed behind the counts
         Key::Form | Key::Autos | Key::Clocks | Key::Triggers | Key::Chans => {

@@ -41,7 +41,8 @@ pub fn new_value(variables: &[Variable], values: &[i16], assignment: Assignment)
     is_in_range(variable, sum).then_some(sum)
 }
 
-// Runs one assignment; none changes nothing.
+// Runs one assignment; none changes nothing. The rows stand apart: the variables are the sequence's and only read, the values
+// the engine's.
 pub fn assign_one(
     variables: &[Variable],
     assignment: Option<Assignment>,
@@ -52,6 +53,7 @@ pub fn assign_one(
     let Some(a) = assignment else {
         return Ok(());
     };
+    // by place, as `parts::set_item`
     let target = a.target as usize;
     if target >= values.len() {
         return Err(OutOfRange);
@@ -69,7 +71,7 @@ pub fn assign_all(
 ) -> Result<(), OutOfRange>
     ensures { GroupRun (assign_all variables.now assignments.now values.old) values.new result }
 {
-    // place by place, the empty ones too, as the definition goes
+    // place by place: `assign_one` takes a place as it is
     for assignment in assignments {
         assign_one(variables, *assignment, values)?;
     }

@@ -18,7 +18,7 @@ fn reset_one(zeroed: &mut [u32], reset: Option<Reset>, tick: u32)
 pub fn reset_all(zeroed: &mut [u32], resets: &[Option<Reset>], tick: u32)
     ensures { zeroed.new ≡ reset_all tick resets.now zeroed.old }
 {
-    // place by place, the empty ones too, as the definition goes
+    // place by place: over `flatten` it stayed open what the loop has zeroed so far
     for reset in resets {
         reset_one(zeroed, *reset, tick);
     }

@@ -31,7 +31,7 @@ pub fn is_present(present: &[bool], trigger: u8) -> bool
 }
 
 impl View<'_> {
-    // The automaton of a location.
+    // The automaton of a location. An engine has the like over its own sequence, by one library call too.
     pub fn automaton(&self, location: u8) -> u8
         ensures { result ≡ automaton_of (state_of self.entry.now).plan location }
     {

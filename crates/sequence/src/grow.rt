@@ -1,4 +1,5 @@
-// The last task, location or edge of a draft grows by one part of a group.
+// The last task, location or edge of a draft grows by one part of a group: a public call for each group, with its own
+// definition; what they share is `grow_last`.
 ghost use Rattle.std.specs.Prelude.{◌≡◌};
 ghost use Rattle.sequence.specs.Growing.{add_task_assignment, add_invariant, add_condition, add_reset, add_edge_assignment};
 ghost use Rattle.sequence.specs.Model.{plan_of, Adds};

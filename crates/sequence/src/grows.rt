@@ -61,6 +61,7 @@ pub(crate) fn grow_last<P: Grows<T>, T: Refers + Copy>(
     ensures grows { Becomes (last_grown P.roomy (T.fits scope.now part) (P.one_more part) rule list.old.items) list.old.items list.new.items result }
     ensures capacity { vec_capacity list.new ≡ vec_capacity list.old }
 {
+    // by `let else`: through `ok_or` what is lent is not known to write back
     let Some(last) = list.last_mut() else {
         return Err(Rule::OutOfTurn);
     };

@@ -1,5 +1,6 @@
 // Edges as obstacles of a stride: each method gives the part of a stretch in front of its obstacle.
-// It is right up to the last tick, where no clock is zeroed later than the stretch starts.
+// It is right up to the last tick, where no clock is zeroed later than the stretch starts. The view stays, the edge is what
+// is gone over.
 ghost use Rattle.std.specs.Prelude.{◌≡◌, false};
 ghost use Rattle.std.specs.List.{AllByRecursion};
 ghost use Rattle.runs.specs.Guards.{guard_holds};
@@ -15,7 +16,8 @@ use parts::part::Edge;
 use search::opposite;
 use search::view::View;
 
-// Whether an edge could be another's partner, but for the guards.
+// Whether an edge could be another's partner, but for the guards: the search's `fits` with its test of the guard left out;
+// one function for both would need a definition between the two.
 fn could_join(view: &View, edge: &Edge, partner: &Edge) -> bool
     ensures { result ≡ joins (state_of view.entry.now) edge.now partner.now }
 {

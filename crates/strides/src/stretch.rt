@@ -8,6 +8,13 @@ pub struct Stretch {
     ghost forward: { from ≤ to },
 }
 
+// A reach lowered to a tick, but not below where it starts.
+pub fn lowered(from: u32, reach: u32, to: u32) -> u32
+    ensures { result ≡ min reach (max to from) }
+{
+    reach.min(to.max(from))
+}
+
 impl Stretch {
     // The ticks behind one up to another; none where that one comes earlier.
     pub fn new(from: u32, to: u32) -> Stretch
@@ -27,7 +34,7 @@ impl Stretch {
     {
         Stretch {
             from: self.from,
-            to: self.to.min(to.max(self.from)),
+            to: lowered(self.from, self.to, to),
         }
     }
 }

@@ -1,5 +1,5 @@
 use Rattle.std.proofs.Common.{Ok, Err, ap, ◌∙◌}
-use Rattle.lexical.specs.declared.fault.LineFault.TheVariants.{Number, FieldCount}
+use Rattle.lexical.specs.declared.fault.LineFault.TheVariants.{Number, FieldCount, KeyNotAllowed}
 use Rattle.lexical.specs.declared.fault.SequenceFault.TheVariants.{Line}
 use Rattle.lexical.specs.Fields.{numeral}
 use Rattle.lexical.specs.Keys.{key_named}
@@ -12,7 +12,7 @@ use Rattle.lines.proofs.counts.counted.Goals as goal
 pub returns-then-ne-clause-read : goal.returns-then-ne-clause-read
 returns-then-ne-clause-read c =
     let k = token_bytes c.in_ok-name.name in
-    ap (λ e. Err e) c.into.ensures ∙ other_key c.args.key c.args.low c.args.high c.args.number c.args.line.now k c.in_ok-name.value.bytes.now c.in_ok-name.ensures.parted
+    ap (λ e. Err e) (c.into.ensures ∙ ap (λ at. Line (KeyNotAllowed at)) c.line_start.ensures) ∙ other_key c.args.key c.args.low c.args.high c.args.number c.args.line.now k c.in_ok-name.value.bytes.now c.in_ok-name.ensures.parted
     (other k c.args.key c.ne.result c.key_named.result (c.key_named.ensures ∙ ap key_named c.bytes.ensures) c.ne.ensures c.if-ne.true)
 
 pub returns-in_err-x-clause-read : goal.returns-in_err-x-clause-read

@@ -1,4 +1,6 @@
 use Rattle.std.proofs.Common.{Err, sym, ap, ◌∙◌, arith}
+use Rattle.lexical.specs.declared.fault.LineFault.TheVariants.{Malformed}
+use Rattle.lexical.specs.declared.fault.SequenceFault.TheVariants.{Line}
 use Rattle.std.proofs.lemmas.Result.{err_from_is_err_and}
 use Rattle.sequence.specs.Model.{plan_of}
 use Rattle.reader.proofs.Stepping.{shorter, at_last, at_more, at_fault, no_line}
@@ -25,4 +27,4 @@ loop-line-preserved c =
     )
 
 pub returns : goal.returns
-returns c = sym c.loop-line.invariant.0 ∙ (no_line (plan_of c.loop-line.draft) _ c.loop-line.rest.now c.in_default.ensures ∙ ap Err (sym c.into.ensures))
+returns c = sym c.loop-line.invariant.0 ∙ (no_line (plan_of c.loop-line.draft) _ c.loop-line.rest.now c.in_default.ensures ∙ ap Err (sym (c.into.ensures ∙ ap (λ at. Line (Malformed at)) c.line_start.ensures)))
