@@ -134,7 +134,8 @@ fn two_jobs(cost: u32, deadline: u32, second_deadline: u32) -> ReadyQueue {
     queue
 }
 
-// What a step on one variable from -5 to 5 that stands at 2 answers, and the variable behind it.
+// What a step on one variable from -5 to 5 that stands at 2 answers, and the variable behind it;
+// in words, since the values of the tests stay as they were.
 fn step(constant: i16, room: bool) -> (&'static str, i16) {
     let variables = [Variable {
         low: -5,

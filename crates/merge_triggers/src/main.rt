@@ -80,11 +80,10 @@ struct Triggers {
 fn read_input(rt: &HostRuntime) -> Result<Triggers, InputError> {
     let mut rows = Vec::new(rt.alloc());
     let mut tray = Tray::new();
-    let mut count = 0usize;
-    for line in rt.lines(rt.alloc()) {
+    for (i, line) in rt.lines(rt.alloc()).enumerate() {
         let line = line?;
-        count = count.saturating_add(1);
-        let row = read_line(&mut tray, line.as_str()).map_err(|f| InputError::Bad(count, f))?;
+        let n = i.saturating_add(1);
+        let row = read_line(&mut tray, line.as_str()).map_err(|f| InputError::Bad(n, f))?;
         if let Some(row) = row {
             rows.push(row)?;
         }

@@ -12,10 +12,7 @@ fn job(number: u32, priority: u8, release: u32, deadline: u32) -> Job {
 }
 
 fn first_number(queue: &ReadyQueue) -> Option<u32> {
-    match queue.first() {
-        Some(j) => Some(j.number),
-        None => None,
-    }
+    queue.first().map(|j| j.number)
 }
 
 fn put<O: Order>(queue: &mut ReadyQueue, order: &O, j: Job) -> bool {
@@ -98,10 +95,11 @@ mod tests {
             assert!(rt; put(&mut queue, &Fc, job(n, 0, n, 9)));
         }
         assert_eq!(rt; queue.len(), 32);
-        match queue.release(&Fc, job(77, 0, 0, 9)) {
-            Ok(()) => return Err(Fail::new("a 33rd job was taken")),
-            Err(QueueFull(j)) => assert_eq!(rt; j.number, 77),
-        }
+        let QueueFull(j) = queue
+            .release(&Fc, job(77, 0, 0, 9))
+            .err()
+            .ok_or("a 33rd job was taken")?;
+        assert_eq!(rt; j.number, 77);
         assert_eq!(rt; queue.len(), 32);
         assert_eq!(rt; queue.get(31).ok_or("short")?.number, 31);
         assert!(rt; queue.get(32).is_none());

@@ -10,7 +10,8 @@ use sequence::memory::Memory;
 use sequence::whole::Sequence;
 use std::alloc::{AllocError, Global};
 
-// The builder's answer in a word: taken, or the rule that is broken.
+// The builder's answer in a word: taken, or the rule that is broken;
+// in words, since the values of the tests stay as they were.
 fn word(answer: Result<(), Rule>) -> &'static str {
     match answer {
         Ok(()) => "taken",
@@ -474,9 +475,7 @@ mod tests {
     fn a_draft_that_is_not_whole_comes_back(rt: HostRuntime) -> Result<(), Fail> {
         let mut draft = begun(rt.alloc(), counts(2, 0, 0, 0))?.ok_or("refused")?;
         assert!(rt; draft.add_location(location(0)).is_ok());
-        let Err(mut draft) = draft.finish() else {
-            return Err(Fail::new("automaton 1 has no location"));
-        };
+        let mut draft = draft.finish().err().ok_or("automaton 1 has no location")?;
         assert!(rt; draft.add_location(location(1)).is_ok());
         assert!(rt; finished(draft).ok_or("not whole")?.locations().len() == 2);
         Ok(())

@@ -54,9 +54,7 @@ fn checked_row(
     if deadline < cost || deadline > LONGEST {
         return Err(Fault::Deadline);
     }
-    let Ok(priority) = u8::try_from(priority) else {
-        return Err(Fault::Priority);
-    };
+    let priority = u8::try_from(priority).map_err(|_| Fault::Priority)?;
     if release < last {
         return Err(Fault::Falls);
     }
@@ -74,24 +72,22 @@ fn number(text: &str) -> Result<u32, Fault> {
 
 fn read_row(last: u32, line: &str) -> Result<Row, Fault> {
     let mut fields = line.split(',');
-    match (
+    let (Some(release), Some(cost), Some(deadline), Some(priority), None) = (
         fields.next(),
         fields.next(),
         fields.next(),
         fields.next(),
         fields.next(),
-    ) {
-        (Some(release), Some(cost), Some(deadline), Some(priority), None) => {
-            checked_row(
-                last,
-                number(release)?,
-                number(cost)?,
-                number(deadline)?,
-                number(priority)?,
-            )
-        }
-        _ => Err(Fault::Fields),
-    }
+    ) else {
+        return Err(Fault::Fields);
+    };
+    checked_row(
+        last,
+        number(release)?,
+        number(cost)?,
+        number(deadline)?,
+        number(priority)?,
+    )
 }
 
 // A run: the jobs that wait, the tick, the rows to come, how many were released and done, and the job that works since a tick.
@@ -119,10 +115,9 @@ impl<'a> Run<'a> {
 
     // Prints the stretch of ticks in which one job worked, if there is one.
     fn close_stretch(&mut self, rt: &HostRuntime) -> io::Result<()> {
-        if let Some((from, job)) = self.working {
+        if let Some((from, job)) = self.working.take() {
             let to = self.now;
             println!(rt; "ticks {from} to {to}: job {job} works")?;
-            self.working = None;
         }
         Ok(())
     }
@@ -137,12 +132,10 @@ impl<'a> Run<'a> {
 
     // A first job with nothing remaining is done and leaves.
     fn finish(&mut self, rt: &HostRuntime) -> io::Result<()> {
-        if let Some(job) = self.queue.first() {
-            if job.remaining == 0 {
-                let _ = self.queue.remove_first();
-                self.report(rt, &job, "done")?;
-                self.done = self.done.saturating_add(1);
-            }
+        if let Some(job) = self.queue.first().filter(|j| j.remaining == 0) {
+            let _ = self.queue.remove_first();
+            self.report(rt, &job, "done")?;
+            self.done = self.done.saturating_add(1);
         }
         Ok(())
     }
@@ -251,21 +244,16 @@ fn read_hold(line: &str) -> Result<bool, Fault> {
 
 fn read_plan(rt: &HostRuntime) -> Result<Plan, InputError> {
     let mut lines = rt.lines(rt.alloc());
-    let Some(line) = lines.next() else {
-        return Err(InputError::Bad(1, Fault::Order));
-    };
+    let line = lines.next().ok_or(InputError::Bad(1, Fault::Order))?;
     let name = read_order(line?.as_str()).map_err(|f| InputError::Bad(1, f))?;
-    let Some(line) = lines.next() else {
-        return Err(InputError::Bad(2, Fault::Hold));
-    };
+    let line = lines.next().ok_or(InputError::Bad(2, Fault::Hold))?;
     let hold = read_hold(line?.as_str()).map_err(|f| InputError::Bad(2, f))?;
     let mut rows = Vec::new(rt.alloc());
     let mut last = 0;
-    let mut count = 2usize;
-    for line in lines {
+    for (i, line) in lines.enumerate() {
         let line = line?;
-        count = count.saturating_add(1);
-        let row = read_row(last, line.as_str()).map_err(|f| InputError::Bad(count, f))?;
+        let n = i.saturating_add(3);
+        let row = read_row(last, line.as_str()).map_err(|f| InputError::Bad(n, f))?;
         last = row.release;
         rows.push(row)?;
     }
@@ -274,10 +262,10 @@ fn read_plan(rt: &HostRuntime) -> Result<Plan, InputError> {
 }
 
 fn run_plan(rt: &HostRuntime, plan: &Plan) -> io::Result<()> {
-    let word = plan.policy.name.word();
-    let hold = if plan.policy.hold { "yes" } else { "no" };
+    let Policy { name, hold } = plan.policy;
+    let hold = if hold { "yes" } else { "no" };
     let jobs = plan.rows.len();
-    println!(rt; "order {word}, hold {hold}, {jobs} jobs")?;
+    println!(rt; "order {name}, hold {hold}, {jobs} jobs")?;
     serve(rt, &plan.policy, &plan.rows)
 }
 

@@ -12,6 +12,7 @@ use sequence::whole::Sequence;
 use std::io;
 
 // An edge with nothing but its ends.
+// Test crates have the like of this and of `only`: a crate for all would be longer.
 fn plain(from: u8, to: u8) -> Edge {
     Edge {
         from,
@@ -208,9 +209,9 @@ fn main(rt: HostRuntime) -> anyhow::Result<()> {
     if let Err(rule) = draft.add_edge(plain(2, 3)) {
         println!(rt; "refused: an edge from 2 to 3 (rule: {rule})")?;
     }
-    let Ok(sequence) = draft.finish() else {
-        return Err(anyhow!("an automaton has no location"));
-    };
+    let sequence = draft
+        .finish()
+        .map_err(|_| anyhow!("an automaton has no location"))?;
     print_sequence(&rt, &sequence)?;
     Ok(())
 }

@@ -5,6 +5,7 @@ use sources::table::Table;
 use sources::tray::Tray;
 use sources::trigger::{PutFault, TableFault, Trigger};
 use sources::{Pair, Source};
+use std::array;
 
 const LAST: u32 = 1_000_000_000;
 
@@ -15,13 +16,8 @@ fn at(tick: u32, number: u8) -> Trigger {
 // Whether a source gives these triggers, in this order, and nothing more.
 fn gives<S: Source + Drop>(mut source: S, triggers: &[Trigger]) -> bool {
     for trigger in triggers {
-        match source.next() {
-            Some(first) => {
-                if first != *trigger {
-                    return false;
-                }
-            }
-            None => return false,
+        if source.next() != Some(*trigger) {
+            return false;
         }
         source.remove();
     }
@@ -48,11 +44,7 @@ fn full_tray(tick: u32) -> Tray {
 
 // The triggers of `full_tray`.
 fn row_of_32(tick: u32) -> [Trigger; 32] {
-    let mut row = [at(tick, 0); 32];
-    for number in 0u8..32 {
-        row[usize::from(number)] = at(tick, number);
-    }
-    row
+    array::from_fn(|n| at(tick, n as u8))
 }
 
 #[cfg(test)]
