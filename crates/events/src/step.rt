@@ -56,7 +56,8 @@ fn assign_sides(engine: &mut Engine, sides: &Sides, room: bool) -> Result<(), St
     engine.assign(&sides.first.assignments, second, room)
 }
 
-// What one side of a step changes beside the variables.
+// What one side of a step changes beside the variables. That there is room is asked once, in `has_room`; here and below it is
+// a premise, each of other edges.
 fn take_side<O: Order>(engine: &mut Engine, order: &O, edge: &Edge)
     ensures { length (state engine.old).waiting + releases_at (state engine.old).plan edge.now.to ≤ 32 → state engine.new ≡ side_taken (O.Precedence.before order.now) edge.now (state engine.old) }
 {

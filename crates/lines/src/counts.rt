@@ -1,4 +1,4 @@
-// The key and the value of a line, and the five lines of counts.
+// The key and the value of a line, and the five lines of counts. A line's number stands beside it: who cuts the text counts.
 ghost use Rattle.std.specs.Prelude.{◌≡◌, ◌≤◌, length, IfOk, Ok, Err, MatchResult};
 ghost use Rattle.lexical.specs.Bytes.{pieces, newline};
 ghost use Rattle.lexical.specs.Fields.{on};
