@@ -37,7 +37,7 @@ impl<'a> FieldText<'a> {
         let blank = field_at(b"", self.at);
         let mut fields = [blank; 4];
         let mut left = Some(self);
-        // by an index: a `&mut` to a field, which borrows, has no proof yet
+        // by an index: a `&mut` to a field, which borrows, has no proof yet; by `let else`: behind `ok_or` the invariant stayed open
         for i in 0..many {
             let Some(text) = left else {
                 return Err(LineFault::FieldCount(self.at));

@@ -29,7 +29,7 @@ pub fn edge_line(value: FieldText, present: Present) -> Result<Edge, SequenceFau
     })
 }
 
-// A clock that is zeroed.
+// A clock that is zeroed. Bytes and place stand apart, here and below: one field asks nothing of its column.
 pub fn reset_line(value: &[u8], at: Place, present: Present) -> Result<Reset, SequenceFault>
     ensures { result ≡ part_of (there_of present) zero_key reset_of at value.now }
 {
