@@ -79,8 +79,8 @@ pub fn run_step(
     Ok(())
 }
 
-// The assignments of a task whose job is done, as a whole or not at all. It stands for callers with rows of their own; the
-// engine's goes by `run_step`.
+// The assignments of a task whose job is done, as a whole or not at all. No caller today: its promise is
+// public and stays; the engine's goes by `run_step`.
 pub fn finish_assignments(
     variables: &[Variable],
     values: &mut [i16],

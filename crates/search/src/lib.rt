@@ -31,7 +31,7 @@ pub fn is_present(present: &[bool], trigger: u8) -> bool
 }
 
 impl View<'_> {
-    // The automaton of a location. An engine has the like over its own sequence, by one library call too.
+    // The automaton of a location. An engine has the like over its own sequence: one library call each, over other data.
     pub fn automaton(&self, location: u8) -> u8
         ensures { result ≡ automaton_of (state_of self.entry.now).plan location }
     {
@@ -81,6 +81,7 @@ impl View<'_> {
     pub fn foremost(&self, candidates: &[u8]) -> Option<(u8, Option<u8>)>
         ensures { Rises candidates.now → Covers (state_of self.entry.now) candidates.now → Finds (state_of self.entry.now) result }
     {
+        // a labelled search and no `find`: the pair is yielded by `break`, at the first edge found open
         'search: {
             for &e in candidates {
                 let Some(edge) = self.edges.get(e as usize) else {
