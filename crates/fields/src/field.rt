@@ -8,6 +8,7 @@ ghost use Rattle.fields.specs.Splits.{IsField, Stands};
 
 use crate::number::integer_at;
 use crate::numeral::Numeral;
+pub use crate::split::one_field;
 use lexical::fault::{LineFault, NumberFault, Place, SequenceFault};
 use lexical::token::{Token, token_of};
 use parts::part::{Label, Relation};

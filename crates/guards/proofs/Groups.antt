@@ -16,7 +16,7 @@ use Rattle.std.proofs.lemmas.Iterator.Adapters.{YieldsList-from_flatten}
 use Rattle.std.proofs.lemmas.Iterator.Consumers.{YieldsList-from_shown}
 use Rattle.runs.specs.Guards.{if_used}
 
-and_true : (a : Bool) → (a && true) ≡ a
+pub and_true : (a : Bool) → (a && true) ≡ a
 and_true true = refl
 and_true false = refl
 
@@ -32,6 +32,11 @@ pub all_used : {X : Type 0} (all : List (Option X) → Bool) (test : X → Bool)
 all_used all test none more [] = none
 all_used all test none more (None ∷ xs) = more None xs ∙ all_used all test none more xs
 all_used all test none more (Some x ∷ xs) = more (Some x) xs ∙ ap (λ b. test x && b) (all_used all test none more xs)
+
+-- the same over all places, each asked whether it passes
+pub all_pass : {X : Type 0} (all : List (Option X) → Bool) (test : X → Bool) → all [] ≡ true → ((x : Option X) (xs : List (Option X)) → all (x ∷ xs) ≡ (if_used x test && all xs)) → (xs : List (Option X)) → all xs ≡ list_all (λ x. if_used x test) xs
+all_pass all test none more [] = none
+all_pass all test none more (x ∷ xs) = more x xs ∙ ap (λ b. if_used x test && b) (all_pass all test none more xs)
 
 -- one more
 pub all_push : {X : Type 0} (test : X → Bool) (xs : List X) (x : X) → list_all test (xs ++ (x ∷ [])) ≡ (list_all test xs && test x)

@@ -2,7 +2,7 @@
 use Rattle.std.specs.Prelude.{◌≡◌, ℕ, ◌<◌, ◌≤◌, Bool, true, false, ◌&&◌, List, ℤ, Some, None, Option, nat_le, slice_index}
 use Rattle.parts.specs.declared.part.Condition.{Condition}
 use Rattle.parts.specs.Limits.{last_tick}
-use Rattle.runs.specs.Guards.{holds, guard_holds}
+use Rattle.runs.specs.Guards.{holds, if_used, guard_holds}
 use Rattle.guards.specs.declared.span.Span.{Span}
 
 -- no clock is zeroed later than a tick
@@ -18,6 +18,10 @@ Spans from test s = (t : ℕ) → from ≤ t → t ≤ last_tick → test t ≡ 
 
 abbrev pub ConditionSpans : List ℕ → List ℤ → Condition → Span → Type 0
 ConditionSpans zeroed values condition s = (from : ℕ) → ZeroedBy zeroed from → Spans from (λ t. holds zeroed values t condition) s
+
+-- a span and the condition in a place of a guard, if there is one, have a span in common
+abbrev pub MeetsPlace : List ℕ → List ℤ → Span → Option Condition → Span → Type 0
+MeetsPlace zeroed values so_far place met = (from : ℕ) → ZeroedBy zeroed from → Spans from (λ t. in_span so_far t && if_used place (holds zeroed values t)) met
 
 abbrev pub GuardSpans : List ℕ → List ℤ → List (Option Condition) → Span → Type 0
 GuardSpans zeroed values guard s = (from : ℕ) → ZeroedBy zeroed from → Spans from (λ t. guard_holds zeroed values t guard) s

@@ -3,7 +3,7 @@
 // A span is right from the last zeroing of a clock on, up to the last tick.
 ghost use Rattle.std.specs.Prelude.{◌≡◌, ℕ, ◌-◌, ◌≤◌, min, max, pos};
 ghost use Rattle.runs.specs.Guards.{compares, guard_holds};
-ghost use Rattle.guards.specs.Spans.{ZeroedBy, Spans, ConditionSpans, GuardSpans, FirstTick, GuardIsAnInterval};
+ghost use Rattle.guards.specs.Spans.{ZeroedBy, Spans, ConditionSpans, MeetsPlace, GuardSpans, FirstTick, GuardIsAnInterval};
 
 use crate::at_tick::last_zeroing;
 use crate::span::Span;
@@ -82,14 +82,23 @@ impl Valuation<'_> {
         }
     }
 
+    // What a span and that of the condition in a place have in common. An empty place takes nothing from it.
+    fn meet_place(self, span: Span, place: &Option<Condition>) -> Span
+        ensures { MeetsPlace self.entry.zeroed.now self.entry.values.now span place.now result }
+    {
+        match place {
+            None => span,
+            Some(c) => span.meet(self.condition_span(c)),
+        }
+    }
+
     // What the spans of a guard's conditions have in common.
     pub fn guard_span(self, guard: &[Option<Condition>]) -> Span
         ensures { GuardSpans self.entry.zeroed.now self.entry.values.now guard.now result }
     {
         guard
             .iter()
-            .flatten()
-            .fold(ALL, |span, c| span.meet(self.condition_span(c)))
+            .fold(ALL, |span, place| self.meet_place(span, place))
     }
 
     // The first tick from a tick on at which a guard holds, or none up to the last tick.

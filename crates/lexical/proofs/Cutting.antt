@@ -1,8 +1,8 @@
 -- The search for a byte, and the pieces of a text by cuts.
-use Rattle.std.proofs.Common.{◌≡◌, ◌≢◌, zero, suc, All, ℕ, ◌+◌, ◌-◌, ◌<◌, Bool, true, false, cond, not, ◌&&◌, eqb, List, [], ◌∷◌, length, get_or, take, drop, Some, None, Option, refl, ap, ◌∙◌, subst, arith}
+use Rattle.std.proofs.Common.{◌≡◌, ◌≢◌, zero, suc, All, ℕ, ◌+◌, ◌-◌, ◌<◌, ◌≤◌, ◌⊎◌, inl, inr, Bool, true, false, cond, not, ◌&&◌, eqb, List, [], ◌∷◌, length, get_or, take, drop, Some, None, Option, refl, ap, ◌∙◌, subst, arith}
 use Rattle.std.proofs.lemmas.List.{take_rest}
 use Rattle.std.proofs.lemmas.List.Elements.{All-head, All-tail}
-use Rattle.std.proofs.lemmas.Bool.{and_from, cond-true, cond-false, eq-eqb, ne_eqb, not_from_false}
+use Rattle.std.proofs.lemmas.Bool.{cases_lt, and_from, cond-true, cond-false, eq-eqb, ne_eqb, not_from_false}
 use Rattle.lexical.specs.Bytes.{free, cut, ahead, pieces}
 use Rattle.lexical.proofs.Parting.{cut_back, pieces_front, pieces_alone}
 
@@ -14,6 +14,20 @@ pub cut_none : (b : ℕ) (xs : List ℕ) → All (IsNot b) xs → cut b xs ≡ N
 cut_none b [] h = refl
 cut_none b (x ∷ xs) h =
     cond-false (eqb x b) (Some ([], xs)) (ahead x (cut b xs)) (ne_eqb x b (All-head (IsNot b) x xs h)) ∙ ap (ahead x) (cut_none b xs (All-tail (IsNot b) x xs h))
+
+-- the same, place by place
+pub cut_nowhere : (b : ℕ) (xs : List ℕ) → ((k : ℕ) → k < length xs → get_or xs k 0 ≢ b) → cut b xs ≡ None
+cut_nowhere b [] n = refl
+cut_nowhere b (x ∷ xs) n =
+    cond-false (eqb x b) (Some ([], xs)) (ahead x (cut b xs)) (ne_eqb x b (n 0 (omega arith))) ∙ ap (ahead x) (cut_nowhere b xs (λ k l. n (suc k) (omega arith)))
+
+-- one place more that has another byte
+pub other_further : (b : ℕ) (xs : List ℕ) (i : ℕ) → get_or xs i 0 ≢ b → ((k : ℕ) → k < i → get_or xs k 0 ≢ b) → (k : ℕ) → k < i + 1 → get_or xs k 0 ≢ b
+other_further b xs i e n k l = go (cases_lt k i)
+  where
+    go : (k < i) ⊎ (i ≤ k) → get_or xs k 0 ≢ b
+    go (inl h) = n k h
+    go (inr h) = let s : i ≡ k = omega arith in subst (λ (j : ℕ). get_or xs j 0 ≢ b) s e
 
 cut_first : (b : ℕ) (xs : List ℕ) (i : ℕ) → i < length xs → get_or xs i 0 ≡ b → ((k : ℕ) → k < i → get_or xs k 0 ≢ b) → cut b xs ≡ Some (take i xs, drop (i + 1) xs)
 cut_first b [] i h e n = absurd (omega arith)

@@ -6,6 +6,11 @@ ghost use Rattle.lexical.specs.Bytes.{cut};
 pub fn cut_at<'a>(text: &'a [u8], byte: u8) -> Option<(&'a [u8], &'a [u8])>
     ensures { MatchOption result (cut byte text.now ≡ None) (λ p. cut byte text.now ≡ Some (p.0.now, p.1.now)) }
 {
-    let at = text.iter().position(|b| *b == byte)?;
-    Some((&text[..at], &text[at + 1..]))
+    // a loop: `position` takes nearly twice the time on a long text
+    for (i, b) in text.iter().enumerate() {
+        if *b == byte {
+            return Some((&text[..i], &text[i + 1..]));
+        }
+    }
+    None
 }

@@ -6,7 +6,6 @@ ghost use Rattle.std.specs.Fmt.{signed_decimal};
 ghost use Rattle.lexical.specs.Faults.{short_report};
 ghost use Rattle.output.specs.Giving.{Gives, Counted, Written, Added};
 
-use itoa::{Buffer, Integer};
 use lexical::fault::Report;
 
 // The answer to a buffer that is too short.
@@ -124,24 +123,22 @@ impl<'a> Sink for Out<'a> {
     }
 }
 
-// A number in decimal, with a minus sign before those below 0.
-fn put_number<S: Sink, I: Integer>(out: &mut S, n: I)
-    ensures { Gives S.Sink.holds S.Sink.lender out.old (I.text n) out.new }
-{
-    let mut digits = Buffer::new();
-    out.put(digits.format(n).as_bytes());
-}
-
-// A number's decimal digits. This and the next are public names, each by the definition that the formats use.
+// A number's decimal digits, each given by itself: a buffer that is too short takes those that fit.
 pub fn put_natural<S: Sink>(out: &mut S, n: u32)
     ensures { Gives S.Sink.holds S.Sink.lender out.old (decimal n) out.new }
 {
-    put_number(out, n);
+    if n >= 10 {
+        put_natural(out, n / 10);
+    }
+    out.put(&[b'0' + (n % 10) as u8]);
 }
 
 // The same with a minus sign before those below 0.
 pub fn put_integer<S: Sink>(out: &mut S, z: i32)
     ensures { Gives S.Sink.holds S.Sink.lender out.old (signed_decimal z) out.new }
 {
-    put_number(out, z);
+    if z < 0 {
+        out.put(b"-");
+    }
+    put_natural(out, z.unsigned_abs());
 }

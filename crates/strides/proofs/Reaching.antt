@@ -1,5 +1,5 @@
 -- Obstacles one behind the other: each leaves the front part of what the one before has left.
-use Rattle.std.proofs.Common.{◌≡◌, ℕ, zero, suc, ◌+◌, ◌<◌, ◌≤◌, ◌⊎◌, List, [], ◌∷◌, ◌++◌, length, Some, Option, Bor, refl, ◌∙◌, subst, inl, inr, arith}
+use Rattle.std.proofs.Common.{◌≡◌, ℕ, zero, suc, ◌+◌, ◌<◌, ◌≤◌, max, ◌⊎◌, List, [], ◌∷◌, ◌++◌, length, Some, Option, Bor, refl, ◌∙◌, subst, inl, inr, arith}
 use denote.Param.Members.{Mut}
 use Rattle.std.specs.Fn.{Called}
 use Rattle.std.specs.Iterator.{Drains}
@@ -12,11 +12,11 @@ use Rattle.strides.specs.Reach.{Reaches, FreePart}
 
 module _ (from : ℕ) where
   -- nothing in the way
-  reaches_all : (P : ℕ → Type 0) (reach : ℕ) → from ≤ reach → ((t : ℕ) → from < t → t ≤ reach → P t) → Reaches P from reach reach
+  pub reaches_all : (P : ℕ → Type 0) (reach : ℕ) → from ≤ reach → ((t : ℕ) → from < t → t ≤ reach → P t) → Reaches P from reach reach
   reaches_all P reach h free = record { ahead = h; within = omega arith; free_to = free; stops = λ l f. omega arith }
 
   -- the same obstacle in other words
-  reaches_same : (P Q : ℕ → Type 0) (reach r : ℕ) → ((t : ℕ) → from < t → t ≤ reach → P t → Q t) → ((t : ℕ) → from < t → t ≤ reach → Q t → P t) → Reaches P from reach r → Reaches Q from reach r
+  pub reaches_same : (P Q : ℕ → Type 0) (reach r : ℕ) → ((t : ℕ) → from < t → t ≤ reach → P t → Q t) → ((t : ℕ) → from < t → t ≤ reach → Q t → P t) → Reaches P from reach r → Reaches Q from reach r
   reaches_same P Q reach r to back h = record {
     ahead = h.ahead;
     within = h.within;
@@ -25,7 +25,7 @@ module _ (from : ℕ) where
   }
 
   -- two obstacles
-  reaches_both : (P Q : ℕ → Type 0) (reach m r : ℕ) → Reaches P from reach m → Reaches Q from m r → Reaches (λ t. P t × Q t) from reach r
+  pub reaches_both : (P Q : ℕ → Type 0) (reach m r : ℕ) → Reaches P from reach m → Reaches Q from m r → Reaches (λ t. P t × Q t) from reach r
   reaches_both P Q reach m r p q = record {
     ahead = q.ahead;
     within = omega (arith, p.within, q.within);
@@ -36,6 +36,12 @@ module _ (from : ℕ) where
       by : r < reach → P (r + 1) × Q (r + 1) → (r < m) ⊎ (m ≤ r) → ⊥
       by l f (inl h) = q.stops h f.1
       by l f (inr h) = let e : r ≡ m = omega (arith, q.within) in p.stops (omega arith) (subst (λ k. P (k + 1)) e f.0)
+
+-- a stretch of two ticks, the first not behind the second
+pub between : (P : ℕ → Type 0) (from reach : ℕ) (s r : Stretch) → s.from ≡ from → s.to ≡ max reach from → from ≤ reach → FreePart P s r → Reaches P from reach r.to
+between P from reach s r e f h p =
+    let g : s.to ≡ reach = omega (arith, f, h) in
+    subst (λ k. Reaches P k reach r.to) e (subst (λ k. Reaches P s.from k r.to) g p.reaches)
 
 -- nothing in the way
 pub part_whole : (P : ℕ → Type 0) (s : Stretch) → ((t : ℕ) → s.from < t → t ≤ s.to → P t) → FreePart P s s

@@ -28,6 +28,10 @@ pub record FreePart (free : ℕ → Type 0) (s r : Stretch) : Type 0 where
 abbrev pub ViewFreePart : View → (ℕ → Type 0) → Stretch → Stretch → Type 0
 ViewFreePart v free s r = ZeroedBy v.valuation.zeroed.now s.from → s.to ≤ last_tick → FreePart free s r
 
+-- as far as a tick from a view's own tick on; right where ViewFreePart is
+abbrev pub ViewReaches : View → (ℕ → Type 0) → (reach r : ℕ) → Type 0
+ViewReaches v free reach r = ZeroedBy v.valuation.zeroed.now v.now → v.now ≤ reach → reach ≤ last_tick → Reaches free v.now reach r
+
 -- the first trigger to come, if any, comes behind a tick
 abbrev pub ComesBehind : ℕ → Option Trigger → Type 0
 ComesBehind t None = Unit {0}

@@ -8,7 +8,7 @@ ghost use Rattle.runs.specs.Edges.{NoneOpen};
 ghost use Rattle.guards.specs.Spans.{in_span};
 ghost use Rattle.search.specs.Views.{state_of};
 ghost use Rattle.strides.specs.Quiet.{at_tick};
-ghost use Rattle.strides.specs.Reach.{FreePart, ViewFreePart, EdgeShut, could_join as joins, pairs_at};
+ghost use Rattle.strides.specs.Reach.{FreePart, ViewFreePart, ViewReaches, EdgeShut, could_join as joins, pairs_at};
 
 use crate::stretch::Stretch;
 use guards::span::Span;
@@ -88,4 +88,11 @@ impl Stretch {
             .iter()
             .fold(self, |part, edge| part.before_edge(view, edge))
     }
+}
+
+// The same of the ticks behind a view's, up to any tick.
+pub fn by_edges(view: &View, reach: u32) -> u32
+    ensures { ViewReaches view.entry.now (λ t. NoneOpen (at_tick t (state_of view.entry.now))) reach result }
+{
+    Stretch::new(view.now, reach).before_edges(view).to
 }

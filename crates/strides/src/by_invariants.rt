@@ -1,10 +1,10 @@
 // Invariants as obstacles of a stride: each method gives the part of a stretch in front of its obstacle.
-ghost use Rattle.std.specs.Prelude.{◌≡◌, ℕ, true};
+ghost use Rattle.std.specs.Prelude.{◌≡◌, ℕ, ◌≤◌, true};
 ghost use Rattle.std.specs.List.{slice_get};
 ghost use Rattle.runs.specs.Guards.{keeps, all_keep, may_stay_in};
 ghost use Rattle.runs.specs.Rules.{may_stay};
 ghost use Rattle.search.specs.Views.{state_of};
-ghost use Rattle.strides.specs.Reach.{FreePart};
+ghost use Rattle.strides.specs.Reach.{FreePart, Reaches};
 
 use crate::stretch::Stretch;
 use guards::at_tick::last_zeroing;
@@ -54,4 +54,11 @@ impl Stretch {
             .iter()
             .fold(self, |part, place| part.before_location(view, *place))
     }
+}
+
+// The same of the ticks behind a view's, up to any tick.
+pub fn by_invariants(view: &View, reach: u32) -> u32
+    ensures { view.entry.now.now ≤ reach → Reaches (λ t. (a : ℕ) → may_stay (state_of view.entry.now) t a ≡ true) view.entry.now.now reach result }
+{
+    Stretch::new(view.now, reach).before_invariants(view).to
 }
