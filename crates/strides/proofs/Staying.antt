@@ -3,32 +3,40 @@ use Rattle.std.proofs.Common.{◌≡◌, ℕ, Bool, true, List, [], ◌∷◌, S
 use Rattle.std.specs.List.{slice_get, list_all, AllByRecursion}
 use Rattle.std.proofs.lemmas.Bool.{and_parts, and_from}
 use Rattle.parts.specs.declared.part.Invariant.{Invariant}
-use Rattle.runs.specs.Guards.{keeps, all_keep, may_stay_in}
+use Rattle.runs.specs.Guards.{if_used, keeps, all_keep, may_stay_in}
 use Rattle.runs.specs.Rules.{location_at, may_stay}
-use Rattle.guards.proofs.Groups.{used, all_used}
+use Rattle.guards.proofs.Groups.{all_pass}
 use Rattle.search.specs.declared.view.View.{View}
 use Rattle.search.specs.Views.{state_of}
 use Rattle.strides.specs.declared.stretch.Stretch.{Stretch}
 use Rattle.strides.specs.Reach.{FreePart}
-use Rattle.strides.proofs.Reaching.{part_same, AllFree, all_from_nth, nth_from_all}
+use Rattle.strides.proofs.Reaching.{part_whole, part_same, AllFree, all_from_nth, nth_from_all}
 
-all_pass : {X : Type 0} (test : X → Bool) (xs : List X) → AllByRecursion (λ x. test x ≡ true) xs → list_all test xs ≡ true
-all_pass test [] h = refl
-all_pass test (x ∷ xs) h = and_from _ _ h.0 (all_pass test xs h.1)
+all_true : {X : Type 0} (test : X → Bool) (xs : List X) → AllByRecursion (λ x. test x ≡ true) xs → list_all test xs ≡ true
+all_true test [] h = refl
+all_true test (x ∷ xs) h = and_from _ _ h.0 (all_true test xs h.1)
 
 passing : {X : Type 0} (test : X → Bool) (xs : List X) → list_all test xs ≡ true → AllByRecursion (λ x. test x ≡ true) xs
 passing test [] h = tt
 passing test (x ∷ xs) h = let p = and_parts (test x) (list_all test xs) h in (p.0, passing test xs p.1)
 
--- a group, invariant by invariant
-pub group_all : (zeroed : List ℕ) (is : List (Option Invariant)) (s r : Stretch) → FreePart (AllFree (λ i t. keeps zeroed t i ≡ true) (used is)) s r → FreePart (λ t. all_keep zeroed t is ≡ true) s r
+-- whether the invariant in a place is kept, if there is one
+abbrev pub kept_at : List ℕ → Option Invariant → ℕ → Type 0
+kept_at zeroed place t = if_used place (keeps zeroed t) ≡ true
+
+-- a place without an invariant, and one with
+pub place_none : (zeroed : List ℕ) (s : Stretch) → FreePart (kept_at zeroed None) s s
+place_none zeroed s = part_whole (kept_at zeroed None) s (λ t l h. refl)
+
+-- a group, place by place
+pub group_all : (zeroed : List ℕ) (is : List (Option Invariant)) (s r : Stretch) → FreePart (AllFree (kept_at zeroed) is) s r → FreePart (λ t. all_keep zeroed t is ≡ true) s r
 group_all zeroed is s r p =
-    part_same (AllFree (λ i t. keeps zeroed t i ≡ true) (used is)) (λ t. all_keep zeroed t is ≡ true) s r
-    (λ t l h f. walk t ∙ all_pass (keeps zeroed t) (used is) f)
-    (λ t l h f. passing (keeps zeroed t) (used is) (sym (walk t) ∙ f)) p
+    part_same (AllFree (kept_at zeroed) is) (λ t. all_keep zeroed t is ≡ true) s r
+    (λ t l h f. walk t ∙ all_true (λ i. if_used i (keeps zeroed t)) is f)
+    (λ t l h f. passing (λ i. if_used i (keeps zeroed t)) is (sym (walk t) ∙ f)) p
   where
-    walk : (t : ℕ) → all_keep zeroed t is ≡ list_all (keeps zeroed t) (used is)
-    walk t = all_used (all_keep zeroed t) (keeps zeroed t) refl (λ x xs. refl) is
+    walk : (t : ℕ) → all_keep zeroed t is ≡ list_all (λ i. if_used i (keeps zeroed t)) is
+    walk t = all_pass (all_keep zeroed t) (keeps zeroed t) refl (λ x xs. refl) is
 
 -- the places, automaton by automaton
 module _ (v : View) where

@@ -1,7 +1,7 @@
 // Invariants as obstacles of a stride: each method gives the part of a stretch in front of its obstacle.
 ghost use Rattle.std.specs.Prelude.{◌≡◌, ℕ, ◌≤◌, true};
 ghost use Rattle.std.specs.List.{slice_get};
-ghost use Rattle.runs.specs.Guards.{keeps, all_keep, may_stay_in};
+ghost use Rattle.runs.specs.Guards.{if_used, keeps, all_keep, may_stay_in};
 ghost use Rattle.runs.specs.Rules.{may_stay};
 ghost use Rattle.search.specs.Views.{state_of};
 ghost use Rattle.strides.specs.Reach.{FreePart, Reaches};
@@ -26,14 +26,23 @@ impl Stretch {
         }
     }
 
+    // The invariant in a place of a group fails. Where there is none nothing is asked.
+    fn before_place(self, place: &Option<Invariant>, zeroed: &[u32]) -> Stretch
+        ensures { FreePart (λ t. if_used place.now (keeps zeroed.now t) ≡ true) self result }
+    {
+        match place {
+            None => self,
+            Some(i) => self.before_invariant(i, zeroed),
+        }
+    }
+
     // An invariant of a group fails.
     fn before_group(self, invariants: &[Option<Invariant>], zeroed: &[u32]) -> Stretch
         ensures { FreePart (λ t. all_keep zeroed.now t invariants.now ≡ true) self result }
     {
         invariants
             .iter()
-            .flatten()
-            .fold(self, |part, i| part.before_invariant(i, zeroed))
+            .fold(self, |part, place| part.before_place(place, zeroed))
     }
 
     // The location at a place may no longer be kept. Where there is no location nothing is asked.
